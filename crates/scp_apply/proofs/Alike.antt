@@ -11,7 +11,7 @@ use Rattle.scp_ledger.specs.declared.journal.Decision.{Decision}
 use Rattle.scp_ledger.specs.declared.took.Onward.TheVariants.{Decided, Asked}
 use Rattle.scp_ledger.specs.Decisions.{OnePerSlot}
 use Rattle.scp_apply.specs.Applied.{AreInOrder, value_of}
-use Rattle.scp_apply.specs.Applier.{ApplierView, IsApplier, IsRunning, IsLater, IsInWindow, Applies}
+use Rattle.scp_apply.specs.Applier.{ApplierView, next_of, IsApplier, IsRunning, IsLater, IsInWindow, Applies}
 use Rattle.scp_apply.specs.Laws.{ShowTheSame, ApplyingIsAFunction}
 use Rattle.scp_apply.proofs.Applying.{not_there}
 
@@ -70,50 +70,57 @@ abbrev Held : ApplierView → Decision → List Decision
 Held v d = v.buffer ++ d ∷ []
 
 module _ (v : ApplierView) (d : Decision) (v' : ApplierView) (known : IsApplier v) (takes : Applies v d v') (known' : IsApplier v') (running' : IsRunning v') where
+  -- what is applied then is in order from the same first slot on
+  still_in_order : AreInOrder v.first v'.applied
+  still_in_order = subst (λ (n : ℕ). AreInOrder n v'.applied) takes.first known'.in_order
+
+  more_in_order : AreInOrder (next_of v) takes.more
+  more_in_order = behind v.first v.applied takes.more (subst (AreInOrder v.first) takes.grows still_in_order)
+
   -- what comes to be applied was held
   was_held : (e : Decision) → Contains takes.more e → Contains (Held v d) e
   was_held e is =
-      let in_order : AreInOrder (1 + length v.applied) takes.more = behind 1 v.applied takes.more (subst (AreInOrder 1) takes.grows known'.in_order) in
-      let above = (bounds (1 + length v.applied) takes.more e in_order is).0 in
+      let above = (bounds (next_of v) takes.more e more_in_order is).0 in
       let there : Contains v'.applied e = subst (λ (xs : List Decision). Contains xs e) (sym takes.grows) (Contains-append_right v.applied takes.more e is) in
       let before : Contains (v.applied ++ Held v d) e = Contains-permutation (v'.applied ++ v'.buffer) (v.applied ++ Held v d) e (IsPermutation-sym (v.applied ++ Held v d) (v'.applied ++ v'.buffer) takes.shared_out) (Contains-append_left v'.applied v'.buffer e there) in
       elim (Contains-append_cases v.applied (Held v d) e before) [
-        | inl applied ↦ absurd (let below = (bounds 1 v.applied e known.in_order applied).1 in omega (arith, above, below))
+        | inl applied ↦ absurd (let below = (bounds v.first v.applied e known.in_order applied).1 in omega (arith, above, below))
         | inr held ↦ held
       ]
 
   -- what was held isn't of the slot after what is applied then
-  not_next : (e : Decision) → Contains (Held v d) e → e.slot.0 ≢ 1 + length v.applied + length takes.more
+  not_next : (e : Decision) → Contains (Held v d) e → e.slot.0 ≢ next_of v + length takes.more
   not_next e held at =
       let long : length v'.applied ≡ length v.applied + length takes.more = ap length takes.grows ∙ length-append v.applied takes.more in
       let there : Contains (v'.applied ++ v'.buffer) e = Contains-permutation (v.applied ++ Held v d) (v'.applied ++ v'.buffer) e takes.shared_out (Contains-append_right v.applied (Held v d) e held) in
       elim (Contains-append_cases v'.applied v'.buffer e there) [
-        | inl applied ↦ (let below = (bounds 1 v'.applied e known'.in_order applied).1 in omega (arith, below, at, long))
-        | inr buffered ↦ (let later = (All-contains (λ (x : Decision). IsLater (length v'.applied) x.slot.0) v'.buffer e running'.in_window buffered).later in omega (arith, later, at, long))
+        | inl applied ↦ (let below = (bounds v.first v'.applied e still_in_order applied).1 in omega (arith, below, at, long))
+        | inr buffered ↦ (let later = (All-contains (λ (x : Decision). IsLater (next_of v') x.slot.0) v'.buffer e running'.in_window buffered).later in let first = takes.first in omega (arith, later, at, long, first))
       ]
 
   -- what is buffered then was held
   still_held : (e : Decision) → Contains v'.buffer e → Contains (Held v d) e
   still_held e is =
       let long : length v'.applied ≡ length v.applied + length takes.more = ap length takes.grows ∙ length-append v.applied takes.more in
-      let later = (All-contains (λ (x : Decision). IsLater (length v'.applied) x.slot.0) v'.buffer e running'.in_window is).later in
+      let later = (All-contains (λ (x : Decision). IsLater (next_of v') x.slot.0) v'.buffer e running'.in_window is).later in
+      let first = takes.first in
       let before : Contains (v.applied ++ Held v d) e = Contains-permutation (v'.applied ++ v'.buffer) (v.applied ++ Held v d) e (IsPermutation-sym (v.applied ++ Held v d) (v'.applied ++ v'.buffer) takes.shared_out) (Contains-append_right v'.applied v'.buffer e is) in
       elim (Contains-append_cases v.applied (Held v d) e before) [
-        | inl applied ↦ absurd (let below = (bounds 1 v.applied e known.in_order applied).1 in omega (arith, later, below, long))
+        | inl applied ↦ absurd (let below = (bounds v.first v.applied e known.in_order applied).1 in omega (arith, later, below, long, first))
         | inr held ↦ held
       ]
 
   -- what was held and is of a slot above what is applied then is buffered
-  stays_held : (e : Decision) → Contains (Held v d) e → length v'.applied < e.slot.0 → Contains v'.buffer e
+  stays_held : (e : Decision) → Contains (Held v d) e → next_of v' ≤ e.slot.0 → Contains v'.buffer e
   stays_held e held above =
       let there : Contains (v'.applied ++ v'.buffer) e = Contains-permutation (v.applied ++ Held v d) (v'.applied ++ v'.buffer) e takes.shared_out (Contains-append_right v.applied (Held v d) e held) in
       elim (Contains-append_cases v'.applied v'.buffer e there) [
-        | inl applied ↦ absurd (let below = (bounds 1 v'.applied e known'.in_order applied).1 in omega (arith, below, above))
+        | inl applied ↦ absurd (let below = (bounds v'.first v'.applied e known'.in_order applied).1 in omega (arith, below, above))
         | inr buffered ↦ buffered
       ]
 
-  above_applied : (e : Decision) → Contains v'.buffer e → length v'.applied < e.slot.0
-  above_applied e is = let later = (All-contains (λ (x : Decision). IsLater (length v'.applied) x.slot.0) v'.buffer e running'.in_window is).later in omega (arith, later)
+  above_applied : (e : Decision) → Contains v'.buffer e → next_of v' ≤ e.slot.0
+  above_applied e is = let later = (All-contains (λ (x : Decision). IsLater (next_of v') x.slot.0) v'.buffer e running'.in_window is).later in omega (arith, later)
 
 -- ---- two of them
 
@@ -125,26 +132,30 @@ held_alike v w d alike e is = elim (Contains-append_cases v.buffer (d ∷ []) e 
 
 decided_alike : (v w : ApplierView) (d : Decision) (v' w' : ApplierView) → ShowTheSame v w → IsApplier v → IsRunning v → IsInWindow v d.slot.0 → Applies v d v' → Applies w d w' → IsApplier v' → IsRunning v' → IsApplier w' → IsRunning w' → ShowTheSame v' w'
 decided_alike v w d v' w' same known running can takes taken then_v going_v then_w going_w =
-    let known_w : IsApplier w = record { in_order = subst (AreInOrder 1) (sym same.applied) known.in_order } in
+    let known_w : IsApplier w = record { in_order = subst (λ (n : ℕ). AreInOrder n w.applied) (sym same.first) (subst (AreInOrder v.first) (sym same.applied) known.in_order) } in
     let one : (e f : Decision) → Contains (Held v d) e → Contains (Held v d) f → e.slot.0 ≡ f.slot.0 → e ≡ f =
     λ e f is it at. one_of (Held v d) e f (all_pairs_push (λ (x y : Decision). x.slot.0 ≢ y.slot.0) v.buffer d running.one (λ k x lt. not_there d.slot.0 v.buffer k x can.fresh lt)) is it at in
     let to_v : (e : Decision) → Contains (Held w d) e → Contains (Held v d) e = held_alike w v d (λ e. (same.buffer e).0) in
     let to_w : (e : Decision) → Contains (Held v d) e → Contains (Held w d) e = held_alike v w d (λ e. (same.buffer e).1) in
     let long : length w.applied ≡ length v.applied = ap length same.applied in
-    let order_v : AreInOrder (1 + length v.applied) takes.more = behind 1 v.applied takes.more (subst (AreInOrder 1) takes.grows then_v.in_order) in
-    let order_w : AreInOrder (1 + length v.applied) taken.more = subst (λ (n : ℕ). AreInOrder (1 + n) taken.more) long (behind 1 w.applied taken.more (subst (AreInOrder 1) taken.grows then_w.in_order)) in
+    let first = same.first in
+    let next : next_of w ≡ next_of v = omega (arith, first, long) in
+    let order_v : AreInOrder (next_of v) takes.more = more_in_order v d v' known takes then_v going_v in
+    let order_w : AreInOrder (next_of v) taken.more = subst (λ (n : ℕ). AreInOrder n taken.more) next (more_in_order w d w' known_w taken then_w going_w) in
     let more : takes.more ≡ taken.more =
-    same_more (Contains (Held v d)) one (1 + length v.applied) takes.more taken.more order_v order_w
+    same_more (Contains (Held v d)) one (next_of v) takes.more taken.more order_v order_w
     (was_held v d v' known takes then_v going_v) (λ e is. to_v e (was_held w d w' known_w taken then_w going_w e is))
-    (not_next v d v' known takes then_v going_v) (λ e is at. not_next w d w' known_w taken then_w going_w e (to_w e is) (omega (arith, at, long))) in
+    (not_next v d v' known takes then_v going_v) (λ e is at. not_next w d w' known_w taken then_w going_w e (to_w e is) (omega (arith, at, next))) in
     let applied : w'.applied ≡ v'.applied = taken.grows ∙ ap (λ (xs : List Decision). xs ++ taken.more) same.applied ∙ ap (λ (xs : List Decision). v.applied ++ xs) (sym more) ∙ sym takes.grows in
+    let begun : w'.first ≡ v'.first = taken.first ∙ same.first ∙ sym takes.first in
     let longer : length w'.applied ≡ length v'.applied = ap length applied in
     record {
+      first = begun;
       failed = taken.runs ∙ sym takes.runs;
       applied = applied;
       buffer = λ e. (
-        (λ is. stays_held v d v' known takes then_v going_v e (to_v e (still_held w d w' known_w taken then_w going_w e is)) (let above = above_applied w d w' known_w taken then_w going_w e is in omega (arith, above, longer))),
-        (λ is. stays_held w d w' known_w taken then_w going_w e (to_w e (still_held v d v' known takes then_v going_v e is)) (let above = above_applied v d v' known takes then_v going_v e is in omega (arith, above, longer))),
+        (λ is. stays_held v d v' known takes then_v going_v e (to_v e (still_held w d w' known_w taken then_w going_w e is)) (let above = above_applied w d w' known_w taken then_w going_w e is in omega (arith, above, longer, begun))),
+        (λ is. stays_held w d w' known_w taken then_w going_w e (to_w e (still_held v d v' known takes then_v going_v e is)) (let above = above_applied v d v' known takes then_v going_v e is in omega (arith, above, longer, begun))),
       );
     }
 

@@ -16,7 +16,7 @@ use Rattle.scp_ledger.specs.Decisions.{is_at, is_decided, OnePerSlot}
 use Rattle.scp_apply.specs.declared.slots.Slots.{Slots}
 use Rattle.scp_apply.specs.Applied.{AreInOrder, values_of, made_of}
 use Rattle.scp_apply.specs.Applier.{IsInWindow}
-use Rattle.scp_apply.specs.inside.Slots.{slots_view, IsApplied, IsSound, AppliesOne, Advances}
+use Rattle.scp_apply.specs.inside.Slots.{slots_view, next_in, IsApplied, IsSound, AppliesOne, Advances}
 
 fold-push : {A B : Type 0} (f : B → A → B) (a : B) (xs : List A) (x : A) → fold f a (xs ++ x ∷ []) ≡ f (fold f a xs) x
 fold-push f a [] x = refl
@@ -56,30 +56,33 @@ apart ds place k d one within lt ne = elim (cases_lt k place) [
 -- how far a loop of the applier is: what it began with, and what it has now
 pub record IsAdvancing {S : Type 0} (after' : S → List ℕ → S) (start : Slots) (before : S) (now : Slots) (state : S) : Type 0 where
   pub is_applied : IsApplied now
+  pub before : now.before ≡ start.before
   pub shared_out : IsPermutation (start.applied.items ++ start.buffer.items) (now.applied.items ++ now.buffer.items)
   pub more : List Decision
   pub grows : now.applied.items ≡ start.applied.items ++ more
   pub state_is : state ≡ made_of before after' more
 
 pub begins : {S : Type 0} (after' : S → List ℕ → S) (start : Slots) (before : S) → IsApplied start → IsAdvancing after' start before start before
-begins after' start before h = record { is_applied = h; shared_out = IsPermutation-refl (start.applied.items ++ start.buffer.items); more = []; grows = sym (append-nil start.applied.items); state_is = refl }
+begins after' start before h = record { is_applied = h; before = refl; shared_out = IsPermutation-refl (start.applied.items ++ start.buffer.items); more = []; grows = sym (append-nil start.applied.items); state_is = refl }
 
-pub goes_on : {S : Type 0} (after' : S → List ℕ → S) (start : Slots) (before : S) (now : Slots) (state : S) (place : ℕ) (next : Slots) (then' : S) → place < length now.buffer.items → ((d : Decision) → is_at (length now.applied.items + 1) (get_or now.buffer.items place d) ≡ true) → AppliesOne after' now state place next then' → IsAdvancing after' start before now state → IsAdvancing after' start before next then'
-goes_on after' start before now state place next then' within at one h =
+pub goes_on : {S : Type 0} (after' : S → List ℕ → S) (start : Slots) (before : S) (now : Slots) (state : S) (place : ℕ) (next : Slots) (then' : S) → place < length now.buffer.items → ((d : Decision) → is_at (next_in now) (get_or now.buffer.items place d) ≡ true) → AppliesOne after' now state place next then' → next.before ≡ now.before → IsAdvancing after' start before now state → IsAdvancing after' start before next then'
+goes_on after' start before now state place next then' within at one same h =
     let d = one.decision in
     let applied = now.applied.items in
     let buffer = now.buffer.items in
-    let slot : d.slot.0 ≡ length applied + 1 = eqb-true _ _ (subst (λ (x : Decision). is_at (length applied + 1) x ≡ true) one.is (at d)) in
+    let slot : d.slot.0 ≡ next_in now = eqb-true _ _ (subst (λ (x : Decision). is_at (next_in now) x ≡ true) one.is (at d)) in
     let longer : length next.applied.items ≡ length applied + 1 = ap length one.applied ∙ length-append applied (d ∷ []) in
+    let further : next_in next ≡ next_in now + 1 = omega (arith, same, longer) in
     let moved : IsPermutation (start.applied.items ++ start.buffer.items) ((applied ++ d ∷ []) ++ remove buffer place) = IsPermutation-more (start.applied.items ++ start.buffer.items) applied buffer place d within (sym one.is) h.shared_out in
-    let other : (k : ℕ) → k < length buffer → k ≢ place → (get_or buffer k d).slot.0 ≢ length applied + 1 = λ k lt ne e. apart buffer place k d h.is_applied.one within lt ne (e ∙ sym slot ∙ ap (λ (x : Decision). x.slot.0) (sym one.is)) in
+    let other : (k : ℕ) → k < length buffer → k ≢ place → (get_or buffer k d).slot.0 ≢ next_in now = λ k lt ne e. apart buffer place k d h.is_applied.one within lt ne (e ∙ sym slot ∙ ap (λ (x : Decision). x.slot.0) (sym one.is)) in
     record {
       is_applied = record {
-        in_order = rw one.applied (AreInOrder-push 1 applied d (omega (arith, slot)) h.is_applied.in_order);
-        above = rw (one.buffer, longer) (all_but (λ (x : Decision). length applied + 1 < x.slot.0) buffer place d within (λ k lt ne. let here = h.is_applied.above k d lt in let far = other k lt ne in omega (arith, here, far)));
-        near = rw (one.buffer, longer) (all_but (λ (x : Decision). x.slot.0 ≤ length applied + 1 + 16) buffer place d within (λ k lt ne. let here = h.is_applied.near k d lt in omega (arith, here)));
+        in_order = rw (same, one.applied) (AreInOrder-push (now.before + 1) applied d (omega (arith, slot)) h.is_applied.in_order);
+        above = subst (λ (n : ℕ). All (λ (x : Decision). n ≤ x.slot.0) next.buffer.items) (sym further) (rw one.buffer (all_but (λ (x : Decision). next_in now + 1 ≤ x.slot.0) buffer place d within (λ k lt ne. let here = h.is_applied.above k d lt in let far = other k lt ne in omega (arith, here, far))));
+        near = subst (λ (n : ℕ). All (λ (x : Decision). x.slot.0 < n + 16) next.buffer.items) (sym further) (rw one.buffer (all_but (λ (x : Decision). x.slot.0 < next_in now + 1 + 16) buffer place d within (λ k lt ne. let here = h.is_applied.near k d lt in omega (arith, here))));
         one = rw one.buffer (all_pairs_remove (λ (x y : Decision). x.slot.0 ≢ y.slot.0) buffer place within h.is_applied.one);
       };
+      before = same ∙ h.before;
       shared_out = rw (one.applied, one.buffer) moved;
       more = h.more ++ d ∷ [];
       grows = one.applied ∙ ap (λ (ds : List Decision). ds ++ d ∷ []) h.grows ∙ append_assoc start.applied.items h.more (d ∷ []);
@@ -101,9 +104,9 @@ none_next n (x ∷ xs) e =
     let le = position_none (is_at n) (x ∷ xs) e in
     All-from_get_or (λ (d : Decision). d.slot.0 ≢ n) (x ∷ xs) x (λ k lt. eqb-false _ _ (fails_before_first (is_at n) (x ∷ xs) k x (omega arith)))
 
-pub ends : {S : Type 0} (after' : S → List ℕ → S) (start : Slots) (before : S) (now : Slots) (state : S) → position (is_at (length now.applied.items + 1)) now.buffer.items ≡ None → IsAdvancing after' start before now state → Advances after' start before now state
+pub ends : {S : Type 0} (after' : S → List ℕ → S) (start : Slots) (before : S) (now : Slots) (state : S) → position (is_at (next_in now)) now.buffer.items ≡ None → IsAdvancing after' start before now state → Advances after' start before now state
 ends after' start before now state none h = record {
-  sound = record { is_applied = h.is_applied; next_missing = none_next (length now.applied.items + 1) now.buffer.items none };
+  sound = record { is_applied = h.is_applied; next_missing = none_next (next_in now) now.buffer.items none };
   shared_out = h.shared_out;
   more = h.more;
   grows = h.grows;
@@ -118,10 +121,10 @@ not_there slot ds k d none lt e = two (list_any_at (is_at slot) ds k d lt (eq-eq
     two : is_decided slot ds ≡ true → is_decided slot ds ≡ false → ⊥
     two p q = let r : true ≡ false = sym p ∙ q in cc
 
-pub buffered : (old new : Slots) (d : Decision) → IsSound old → IsInWindow (slots_view false old) d.slot.0 → new.applied ≡ old.applied → new.buffer.items ≡ old.buffer.items ++ d ∷ [] → IsApplied new
-buffered old new d h w applied buffer = record {
-  in_order = rw applied h.is_applied.in_order;
-  above = rw (applied, buffer) (All-push (λ (x : Decision). length old.applied.items < x.slot.0) old.buffer.items d h.is_applied.above w.from);
-  near = rw (applied, buffer) (All-push (λ (x : Decision). x.slot.0 ≤ length old.applied.items + 16) old.buffer.items d h.is_applied.near w.near);
+pub buffered : (old new : Slots) (d : Decision) → IsSound old → IsInWindow (slots_view false old) d.slot.0 → new.before ≡ old.before → new.applied ≡ old.applied → new.buffer.items ≡ old.buffer.items ++ d ∷ [] → IsApplied new
+buffered old new d h w before applied buffer = record {
+  in_order = rw (before, applied) h.is_applied.in_order;
+  above = rw (before, applied, buffer) (All-push (λ (x : Decision). next_in old ≤ x.slot.0) old.buffer.items d h.is_applied.above w.from);
+  near = rw (before, applied, buffer) (All-push (λ (x : Decision). x.slot.0 < next_in old + 16) old.buffer.items d h.is_applied.near w.near);
   one = rw buffer (all_pairs_push (λ (x y : Decision). x.slot.0 ≢ y.slot.0) old.buffer.items d h.is_applied.one (λ k x lt. not_there d.slot.0 old.buffer.items k x w.fresh lt));
 }

@@ -9,7 +9,7 @@ use Rattle.std.proofs.lemmas.List.Sorted.{list_any-IsPermutation}
 use Rattle.scp_ledger.specs.declared.journal.Decision.{Decision}
 use Rattle.scp_ledger.specs.Decisions.{is_at, is_decided, IsLowest, IsNext}
 use Rattle.scp_apply.specs.Applied.{AreInOrder}
-use Rattle.scp_apply.specs.Applier.{ApplierView, IsApplier, IsRunning, IsLater, IsInWindow}
+use Rattle.scp_apply.specs.Applier.{ApplierView, next_of, IsApplier, IsRunning, IsLater, IsInWindow}
 
 or_true : (b : Bool) → (b || true) ≡ true
 or_true true = refl
@@ -40,32 +40,32 @@ in_order_not start (d ∷ ds) slot h above =
 by_parts : (earlier : List Decision) (v : ApplierView) (slot : ℕ) → IsPermutation earlier (v.applied ++ v.buffer) → is_decided slot earlier ≡ (is_decided slot v.applied || is_decided slot v.buffer)
 by_parts earlier v slot h = list_any-IsPermutation (is_at slot) earlier (v.applied ++ v.buffer) h ∙ list_any-append (is_at slot) v.applied v.buffer
 
-other_slot : (n : ℕ) (d : Decision) → IsLater n d.slot.0 → is_at (n + 1) d ≡ false
-other_slot n d h = ne_eqb d.slot.0 (n + 1) (let later = h.later in omega (arith, later))
+other_slot : (n : ℕ) (d : Decision) → IsLater n d.slot.0 → is_at n d ≡ false
+other_slot n d h = ne_eqb d.slot.0 n (let later = h.later in omega (arith, later))
 
-lowest_is : (v : ApplierView) (earlier : List Decision) → IsApplier v → IsRunning v → IsPermutation earlier (v.applied ++ v.buffer) → IsLowest earlier (length v.applied + 1)
+lowest_is : (v : ApplierView) (earlier : List Decision) → IsApplier v → IsRunning v → IsPermutation earlier (v.applied ++ v.buffer) → IsLowest v.first earlier (next_of v)
 lowest_is v earlier a r h = record {
-  from_one = omega arith;
-  decided = λ slot one below. by_parts earlier v slot h ∙ ap (λ b. b || is_decided slot v.buffer) (in_order_has 1 v.applied slot a.in_order one (omega arith));
+  from_first = omega arith;
+  decided = λ slot one below. by_parts earlier v slot h ∙ ap (λ b. b || is_decided slot v.buffer) (in_order_has v.first v.applied slot a.in_order one (omega arith));
   undecided =
-      let next = length v.applied + 1 in
-      by_parts earlier v next h ∙ ap (λ b. b || is_decided next v.buffer) (in_order_not 1 v.applied next a.in_order (omega arith))
-      ∙ list_any_none (is_at next) v.buffer (All-weaker (λ (d : Decision). IsLater (length v.applied) d.slot.0) (λ (d : Decision). is_at next d ≡ false) (λ d later. other_slot (length v.applied) d later) v.buffer r.in_window);
+      let next = next_of v in
+      by_parts earlier v next h ∙ ap (λ b. b || is_decided next v.buffer) (in_order_not v.first v.applied next a.in_order (omega arith))
+      ∙ list_any_none (is_at next) v.buffer (All-weaker (λ (d : Decision). IsLater (next_of v) d.slot.0) (λ (d : Decision). is_at next d ≡ false) (λ d later. other_slot (next_of v) d later) v.buffer r.in_window);
 }
 
-lowest_unique : (ds : List Decision) (a b : ℕ) → IsLowest ds a → IsLowest ds b → a ≡ b
-lowest_unique ds a b h k =
+lowest_unique : (first : ℕ) (ds : List Decision) (a b : ℕ) → IsLowest first ds a → IsLowest first ds b → a ≡ b
+lowest_unique first ds a b h k =
     elim (cases_lt a b) [
-      | inl lt ↦ absurd (two_ways (is_decided a ds) (k.decided a h.from_one lt) h.undecided)
+      | inl lt ↦ absurd (two_ways (is_decided a ds) (k.decided a h.from_first lt) h.undecided)
       | inr le ↦ elim (cases_lt b a) [
-        | inl lt ↦ absurd (two_ways (is_decided b ds) (h.decided b k.from_one lt) k.undecided)
+        | inl lt ↦ absurd (two_ways (is_decided b ds) (h.decided b k.from_first lt) k.undecided)
         | inr ge ↦ omega arith
       ]
     ]
 
-pub next_can_be_taken : (v : ApplierView) (earlier : List Decision) (d : Decision) → IsApplier v → IsRunning v → IsPermutation earlier (v.applied ++ v.buffer) → IsNext earlier d → IsInWindow v d.slot.0
+pub next_can_be_taken : (v : ApplierView) (earlier : List Decision) (d : Decision) → IsApplier v → IsRunning v → IsPermutation earlier (v.applied ++ v.buffer) → IsNext v.first earlier d → IsInWindow v d.slot.0
 next_can_be_taken v earlier d a r h next =
-    let same : next.lowest ≡ length v.applied + 1 = lowest_unique earlier next.lowest (length v.applied + 1) next.is_lowest (lowest_is v earlier a r h) in
+    let same : next.lowest ≡ next_of v = lowest_unique v.first earlier next.lowest (next_of v) next.is_lowest (lowest_is v earlier a r h) in
     let from = next.from in
     let near = next.near in
     record {

@@ -49,8 +49,8 @@ applies_pass = record {
 }
 
 pub applier_keeps_up : WindowIsKept → ApplierKeepsUp
-applier_keeps_up window = λ took v x a k. by_thing took v x a (window.last took x k)
+applier_keeps_up window = λ took v x a k. by_thing took v x a (window.last v.first took x k)
   where
-    by_thing : (took : List Onward) (v : ApplierView) (x : Onward) → Applies took v → MaySend took x → CanTake v x
+    by_thing : (took : List Onward) (v : ApplierView) (x : Onward) → Applies took v → MaySend v.first took x → CanTake v x
     by_thing took v (Decided d) a may = next_can_be_taken v (decisions_on took) d a.known a.running a.shared_out may
     by_thing took v (Asked link slot) a may = tt

@@ -12,7 +12,7 @@ use Rattle.scp_ledger.specs.Decisions.{OnePerSlot}
 use Rattle.scp_apply.specs.declared.slots.Slots.{Slots}
 use Rattle.scp_apply.specs.Applied.{AreInOrder, value_of}
 use Rattle.scp_apply.specs.Applier.{IsLater, IsRunning}
-use Rattle.scp_apply.specs.inside.Slots.{slots_view, IsSound}
+use Rattle.scp_apply.specs.inside.Slots.{slots_view, next_in, IsSound}
 
 pub value_before : (from slot : ℕ) (ds : List Decision) → AreInOrder from ds → slot < from → value_of slot ds ≡ None
 value_before from slot [] h lt = refl
@@ -36,17 +36,17 @@ value_behind from slot (d ∷ ds) h le =
     let other : nat_eq d.slot.0 slot ≡ false = ne_eqb d.slot.0 slot (let first = h.0 in omega (arith, first, le)) in
     rw other (value_behind (from + 1) slot ds h.1 (omega (arith, le)))
 
-pub value_found : (slot : ℕ) (xs ds : List Decision) (d e : Decision) → xs ≡ ds → AreInOrder 1 ds → (slot ≡ 0 → ⊥) → slot - 1 < length xs → ((other : Decision) → d ≡ get_or xs (slot - 1) other) → e ≡ d → Some e.value ≡ value_of slot ds
-value_found slot xs ds d e same h some lt is found =
-    let at : slot ≡ 1 + (slot - 1) = omega (arith, some) in
-    let short : slot - 1 < length ds = subst (λ (ys : List Decision). slot - 1 < length ys) same lt in
-    let here : e ≡ get_or ds (slot - 1) d = found ∙ is d ∙ ap (λ (ys : List Decision). get_or ys (slot - 1) d) same in
-    ap (λ (x : Decision). Some x.value) here ∙ sym (value_there 1 (slot - 1) ds d h short) ∙ ap (λ (s : ℕ). value_of s ds) (sym at)
+pub value_found : (first slot : ℕ) (xs ds : List Decision) (d e : Decision) → xs ≡ ds → AreInOrder first ds → first ≤ slot → slot - first < length xs → ((other : Decision) → d ≡ get_or xs (slot - first) other) → e ≡ d → Some e.value ≡ value_of slot ds
+value_found first slot xs ds d e same h from lt is found =
+    let at : slot ≡ first + (slot - first) = omega (arith, from) in
+    let short : slot - first < length ds = subst (λ (ys : List Decision). slot - first < length ys) same lt in
+    let here : e ≡ get_or ds (slot - first) d = found ∙ is d ∙ ap (λ (ys : List Decision). get_or ys (slot - first) d) same in
+    ap (λ (x : Decision). Some x.value) here ∙ sym (value_there first (slot - first) ds d h short) ∙ ap (λ (s : ℕ). value_of s ds) (sym at)
 
-pub value_missing : (slot : ℕ) (xs ds : List Decision) → xs ≡ ds → AreInOrder 1 ds → (slot ≡ 0 → ⊥) → length xs ≤ slot - 1 → None ≡ value_of slot ds
-value_missing slot xs ds same h some le =
-    let short : length ds ≤ slot - 1 = subst (λ (ys : List Decision). length ys ≤ slot - 1) same le in
-    sym (value_behind 1 slot ds h (omega (arith, short, some)))
+pub value_missing : (first slot : ℕ) (xs ds : List Decision) → xs ≡ ds → AreInOrder first ds → first ≤ slot → length xs ≤ slot - first → None ≡ value_of slot ds
+value_missing first slot xs ds same h from le =
+    let short : length ds ≤ slot - first = subst (λ (ys : List Decision). length ys ≤ slot - first) same le in
+    sym (value_behind first slot ds h (omega (arith, short, from)))
 
 -- ---- how many are buffered
 
@@ -56,7 +56,7 @@ or_rest false b f e = e
 
 -- how far a slot is above the lowest one that can be buffered
 abbrev ahead : ℕ → Decision → ℕ
-ahead n d = d.slot.0 - (n + 2)
+ahead n d = d.slot.0 - (n + 1)
 
 ahead_apart : (n : ℕ) (a b : Decision) → IsLater n a.slot.0 → IsLater n b.slot.0 → a.slot.0 ≢ b.slot.0 → nat_eq (ahead n a) (ahead n b) ≡ false
 ahead_apart n a b p q ne = ne_eqb (ahead n a) (ahead n b) (λ e. ne (let above = p.later in let over = q.later in omega (arith, e, above, over)))
@@ -84,12 +84,12 @@ few_ahead n ds later one =
 
 pub running_of : (failed : Bool) (s : Slots) → failed ≡ false → IsSound s → IsRunning (slots_view failed s)
 running_of failed s runs h =
-    let later : All (λ d. IsLater (length s.applied.items) d.slot.0) s.buffer.items = λ k d lt. record {
+    let later : All (λ d. IsLater (next_in s) d.slot.0) s.buffer.items = λ k d lt. record {
       later = (let above = h.is_applied.above k d lt in let other = h.next_missing k d lt in omega (arith, above, other));
       near = h.is_applied.near k d lt;
     } in
     record {
       in_window = later;
       one = h.is_applied.one;
-      few = (let fewer = few_ahead (length s.applied.items) s.buffer.items later h.is_applied.one in omega (arith, fewer));
+      few = (let fewer = few_ahead (next_in s) s.buffer.items later h.is_applied.one in omega (arith, fewer));
     }

@@ -11,38 +11,45 @@ use Rattle.scp_apply.specs.Applied.{AreInOrder, value_of}
 
 -- what contracts see of an applier; the state isn't part of it, since it is what the applied values make
 pub record ApplierView : Type 0 where
+  pub first : ℕ  -- the slot that it began with
   pub failed : Bool
   pub applied : List Decision
   pub buffer : List Decision  -- what was taken and isn't applied yet
 
--- slots 1 to n are applied, in order; failed or not
+-- the slot that is applied next
+abbrev pub next_of : ApplierView → ℕ
+next_of v = v.first + length v.applied
+
+-- the slots from the first on are applied, in order; failed or not
 pub record IsApplier (v : ApplierView) : Type 0 where
-  pub in_order : AreInOrder 1 v.applied
+  pub in_order : AreInOrder v.first v.applied
 
--- the slot is one of the 16 from n + 1 on, but isn't n + 1
-pub record IsLater (n slot : ℕ) : Type 0 where
-  pub later : n + 1 < slot
-  pub near : slot ≤ n + 16
+-- the slot is one of the 16 from the next on, but isn't the next
+pub record IsLater (next slot : ℕ) : Type 0 where
+  pub later : next < slot
+  pub near : slot < next + 16
 
--- only slots n + 2 to n + 16 are buffered, and no slot twice
+-- only the 15 slots after the next are buffered, and no slot twice
 pub record IsRunning (v : ApplierView) : Type 0 where
-  pub in_window : All (λ d. IsLater (length v.applied) d.slot.0) v.buffer
+  pub in_window : All (λ d. IsLater (next_of v) d.slot.0) v.buffer
   pub one : OnePerSlot v.buffer
   pub few : length v.buffer ≤ 16
 
--- a slot whose decision can be taken: one of the 16 from n + 1 on, which isn't buffered
+-- a slot whose decision can be taken: one of the 16 from the next on, which isn't buffered
 pub record IsInWindow (v : ApplierView) (slot : ℕ) : Type 0 where
-  pub from : length v.applied < slot
-  pub near : slot ≤ length v.applied + 16
+  pub from : next_of v ≤ slot
+  pub near : slot < next_of v + 16
   pub fresh : is_decided slot v.buffer ≡ false
 
--- what the caller may give: a decision for one of the 16 slots from n + 1 on that isn't buffered, or any request for a record
+-- what the caller may give: a decision for one of the 16 slots from the next on that isn't buffered, or any request for a record
 abbrev pub CanTake : ApplierView → Onward → Type 0
 CanTake v (Decided d) = IsInWindow v d.slot.0
 CanTake v (Asked link slot) = Unit {0}
 
--- The decision is buffered, and what is next is applied. What was applied or buffered, with it, is applied or buffered now.
+-- The decision is buffered, and what is next is applied, from the same first slot on. What was applied or buffered, with it, is
+-- applied or buffered now.
 pub record Applies (old : ApplierView) (d : Decision) (new : ApplierView) : Type 0 where
+  pub first : new.first ≡ old.first
   pub runs : new.failed ≡ false
   pub shared_out : IsPermutation (old.applied ++ (old.buffer ++ d ∷ [])) (new.applied ++ new.buffer)
   pub more : List Decision

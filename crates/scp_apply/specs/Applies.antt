@@ -21,4 +21,4 @@ pub record AppliesPass : Type 0 where
 
 -- an applier that took all that came before can take the next thing
 abbrev pub ApplierKeepsUp : Type 0
-ApplierKeepsUp = (took : List Onward) (v : ApplierView) (x : Onward) → Applies took v → KeepsWindow (took ++ x ∷ []) → CanTake v x
+ApplierKeepsUp = (took : List Onward) (v : ApplierView) (x : Onward) → Applies took v → KeepsWindow v.first (took ++ x ∷ []) → CanTake v x

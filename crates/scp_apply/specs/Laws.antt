@@ -7,12 +7,13 @@ use Rattle.scp_ledger.specs.declared.took.Onward.{Onward}
 use Rattle.scp_ledger.specs.Decisions.{IsNext}
 use Rattle.scp_apply.specs.Applier.{ApplierView, IsApplier, IsRunning, IsInWindow, CanTake, Takes}
 
--- an applier that took exactly these decisions can take the next one that a ledger makes after them
+-- an applier that took exactly these decisions can take the next one that a ledger of the same first slot makes after them
 abbrev pub NextCanBeTaken : Type 0
-NextCanBeTaken = (v : ApplierView) (earlier : List Decision) (d : Decision) → IsApplier v → IsRunning v → IsPermutation earlier (v.applied ++ v.buffer) → IsNext earlier d → IsInWindow v d.slot.0
+NextCanBeTaken = (v : ApplierView) (earlier : List Decision) (d : Decision) → IsApplier v → IsRunning v → IsPermutation earlier (v.applied ++ v.buffer) → IsNext v.first earlier d → IsInWindow v d.slot.0
 
 -- two appliers show the same, except for the order of their buffers
 pub record ShowTheSame (v w : ApplierView) : Type 0 where
+  pub first : w.first ≡ v.first
   pub failed : w.failed ≡ v.failed
   pub applied : w.applied ≡ v.applied
   pub buffer : (d : Decision) → Contains w.buffer d ↔ Contains v.buffer d

@@ -1,5 +1,5 @@
 //! An applier.
-ghost use Rattle.std.specs.Prelude.{◌≡◌, ◌↔◌, IsTrue, ◌⊎◌, [], true, false, OnOk, OnErr, IfOk, IfErr, IfSome, IsErrOf, None, Some, if◌then◌else◌, option_copied};
+ghost use Rattle.std.specs.Prelude.{◌≡◌, ◌+◌, ◌↔◌, IsTrue, ◌⊎◌, [], true, false, OnOk, OnErr, IfOk, IfErr, IfSome, IsErrOf, None, Some, if◌then◌else◌, option_copied};
 ghost use Rattle.scp_wire.specs.Fitting.{IsFitting};
 ghost use Rattle.scp_apply.specs.Applied.{made_of, value_of};
 ghost use Rattle.scp_apply.specs.Applier.{IsApplier, IsRunning, IsInWindow, CanTake, Takes};
@@ -37,20 +37,20 @@ impl<A: Application> Model for Applier<A> {
 }
 
 impl<A: Application> Applier<A> {
-    /// An applier that took nothing. Takes no memory.
-    pub fn new(alloc: Global) -> Applier<A>
-        ensures empty { result ≡ record { failed = false; applied = []; buffer = [] } }
+    /// An applier that took nothing. Its first slot is the one after `before`, so 0 is given for slot 1. Takes no memory.
+    pub fn new(alloc: Global, before: u32) -> Applier<A>
+        ensures empty { result ≡ record { first = before + 1; failed = false; applied = []; buffer = [] } }
         ensures known { IsApplier result }
         ensures running { IsRunning result }
     {
         Applier {
-            slots: Slots::new(alloc),
+            slots: Slots::new(alloc, before),
             state: A::new_state(alloc),
             failed: false,
         }
     }
 
-    /// The decisions that are applied, those of the slots 1, 2, ...
+    /// The decisions that are applied, those of the first slot and of the slots after it, in order.
     pub fn applied(&self) -> &[SharedDecision]
         ensures same { result.now ≡ self.now.applied }
         ensures known { IsApplier self.now }
@@ -93,7 +93,7 @@ impl<A: Application> Applier<A> {
         self.slots.value_at(slot)
     }
 
-    /// Whether the decision of a slot can be taken: the slot is one of the 16 from the first that isn't applied, and isn't buffered.
+    /// Whether the decision of a slot can be taken: the slot is one of the 16 from the next on, and isn't buffered.
     pub fn can_take(&self, slot: Slot) -> bool
         ensures { IsTrue result ↔ IsInWindow self.now slot.0 }
     {
@@ -111,6 +111,7 @@ impl<A: Application> Applier<A> {
         ensures fits { IfOk result (λ answer. IfSome answer (λ sent. IsFitting sent.1)) }
         ensures known { IsApplier self.new }
         ensures running { self.new.failed ≡ false → IsRunning self.new }
+        ensures first { self.new.first ≡ self.old.first }
         // When each refusal comes, and what it leaves.
         ensures failed { IsErrOf result Fault.Failed ↔ (self.old.failed ≡ true) }
         ensures same { self.old.failed ≡ true → self.new ≡ self.old }

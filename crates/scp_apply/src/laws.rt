@@ -4,7 +4,8 @@ ghost use Rattle.scp_apply.specs.Laws.{ApplyingIsAFunction, NextCanBeTaken};
 
 use scp_ledger::a_beginning_keeps_the_window;
 
-/// An applier whose applied and buffered decisions are exactly those that a ledger made can take the next one that the ledger makes.
+/// An applier whose applied and buffered decisions are exactly those that a ledger of the same first slot made can take the next
+/// one that the ledger makes.
 pub fn the_next_decision_can_be_taken()
     ensures { NextCanBeTaken }
 {}

@@ -1,9 +1,9 @@
 //! The applier of a node applies decisions in the order of their slots.
 //!
 //! What each `Applier::take` promises:
-//! - Slots 1 to n are applied once each, in order, each with its decision. The state is what
+//! - The slots from its first on are applied once each, in order, each with its decision. The state is what
 //!   the application makes of their values, one after another.
-//! - What was taken and isn't applied yet is buffered. Slot n + 1 never is, so at most 15 decisions are, those of slots n + 2 to n + 16.
+//! - What was taken and isn't applied yet is buffered. The next slot never is, so at most 15 decisions are, those of the 15 slots after it.
 //! - A request for a slot's record is answered exactly if the slot is applied.
 //! - Whoever takes a ledger's decisions in their order never meets a slot that can't be taken.
 //! - Two appliers that show the same and take the same give the same answer and apply the same.

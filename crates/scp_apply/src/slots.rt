@@ -5,7 +5,7 @@ ghost use Rattle.scp_ledger.specs.declared.journal.Decision.{Decision};
 ghost use Rattle.scp_ledger.specs.Decisions.{is_at, is_decided};
 ghost use Rattle.scp_apply.specs.Applied.{AreInOrder, value_of};
 ghost use Rattle.scp_apply.specs.Applier.{IsInWindow, CanTake, Takes};
-ghost use Rattle.scp_apply.specs.inside.Slots.{slots_view, IsApplied, IsSound, IsMade, AppliesOne, Advances, Enters};
+ghost use Rattle.scp_apply.specs.inside.Slots.{slots_view, next_in, IsApplied, IsSound, IsMade, AppliesOne, Advances, Enters};
 
 use scp_driver::Application;
 use scp_ledger::{DECIDED_LIMIT, Onward, SharedDecision, WINDOW};
@@ -16,17 +16,21 @@ use std::alloc::Global;
 /// What is applied, and what is buffered until it is next.
 #[derive(Drop)]
 pub struct Slots {
+    /// The last slot before the first one: 0 where that is slot 1.
+    pub before: u32,
     pub applied: Vec<SharedDecision>,
     pub buffer: Vec<SharedDecision>,
 }
 
 impl Slots {
-    pub fn new(alloc: Global) -> Slots
+    pub fn new(alloc: Global, before: u32) -> Slots
+        ensures before { result.before ≡ before }
         ensures applied { result.applied.items ≡ [] }
         ensures buffer { result.buffer.items ≡ [] }
         ensures sound { IsSound result }
     {
         Slots {
+            before,
             applied: Vec::new(alloc),
             buffer: Vec::new(alloc),
         }
@@ -34,14 +38,15 @@ impl Slots {
 
     /// The value of a slot, if it is applied. Constant time.
     pub fn value_at(&self, slot: Slot) -> Option<&Value>
-        requires in_order { AreInOrder 1 self.now.applied.items }
+        requires in_order { AreInOrder (self.now.before + 1) self.now.applied.items }
         ensures same { option_copied result ≡ value_of slot.0 self.now.applied.items }
         ensures short { IfSome result (λ value. length value.now ≤ DECIDED_LIMIT) }
     {
-        if slot.0 == 0 {
+        let first = self.before as u64 + 1;
+        if slot.0 < first {
             return None;
         }
-        match self.applied.get((slot.0 - 1) as usize) {
+        match self.applied.get((slot.0 - first) as usize) {
             Some(decision) => Some(&decision.get().value),
             None => None,
         }
@@ -51,8 +56,8 @@ impl Slots {
     pub fn is_in_window(&self, slot: Slot) -> bool
         ensures { IsTrue result ↔ IsInWindow (slots_view false self.now) slot.0 }
     {
-        let applied = self.applied.len() as u64;
-        slot.0 > applied && slot.0 - applied <= WINDOW && !has_slot(self.buffer.as_slice(), slot)
+        let next = self.before as u64 + 1 + self.applied.len() as u64;
+        slot.0 >= next && slot.0 - next < WINDOW && !has_slot(self.buffer.as_slice(), slot)
     }
 
     /// Takes what the slot stage sends on, and gives the answer for one link. A refusal keeps
@@ -67,6 +72,7 @@ impl Slots {
         ensures takes { IfOk result (λ answer. Takes (slots_view false self.old) onward answer (slots_view false self.new)) }
         ensures fits { IfOk result (λ answer. IfSome answer (λ sent. IsFitting sent.1)) }
         ensures sound { OnOk result (IsSound self.new) }
+        ensures before { self.new.before ≡ self.old.before }
         ensures made { IsMade A.first A.after self.old state.old → OnOk result (IsMade A.first A.after self.new state.new) }
         ensures err { OnErr result (self.new.applied.items ≡ self.old.applied.items) }
         ensures only_memory { IsOkUnless result Fault.NoMemory }
@@ -82,7 +88,7 @@ impl Slots {
 
     /// The record of a slot for that link, if the slot is applied.
     fn record_of(&self, link: u8, slot: Slot) -> Result<Option<(u8, Message)>, Fault>
-        requires in_order { AreInOrder 1 self.now.applied.items }
+        requires in_order { AreInOrder (self.now.before + 1) self.now.applied.items }
         ensures answer { IfOk result (λ answer. answer ≡ option_map (λ value. (link, Message.Record slot value)) (value_of slot.0 self.now.applied.items)) }
         ensures fits { IfOk result (λ answer. IfSome answer (λ sent. IsFitting sent.1)) }
         ensures only_memory { IsOkUnless result Fault.NoMemory }
@@ -103,13 +109,14 @@ impl Slots {
         requires sound { IsSound self.old }
         requires in_window { IsInWindow (slots_view false self.old) decision.slot.0 }
         ensures ok { OnOk result (Enters A.after self.old state.old decision self.new state.new) }
+        ensures before { self.new.before ≡ self.old.before }
         ensures err { OnErr result (self.new.applied.items ≡ self.old.applied.items) }
         ensures only_memory { IsOkUnless result Fault.NoMemory }
     {
-        let before = self.applied.len();
+        let applied = self.applied.len();
         let taken = self.enter::<A>(state, decision);
         if taken.is_err() {
-            self.applied.truncate(before);
+            self.applied.truncate(applied);
         }
         taken
     }
@@ -123,6 +130,7 @@ impl Slots {
         requires sound { IsSound self.old }
         requires in_window { IsInWindow (slots_view false self.old) decision.slot.0 }
         ensures ok { OnOk result (Enters A.after self.old state.old decision self.new state.new) }
+        ensures before { self.new.before ≡ self.old.before }
         ensures err { OnErr result ((more : List Decision) × (self.new.applied.items ≡ self.old.applied.items ++ more)) }
         ensures only_memory { IsOkUnless result Fault.NoMemory }
     {
@@ -134,6 +142,7 @@ impl Slots {
     fn advance<A: Application>(&mut self, state: &mut A::State) -> Result<(), Fault>
         requires is_applied { IsApplied self.old }
         ensures ok { OnOk result (Advances A.after self.old state.old self.new state.new) }
+        ensures before { self.new.before ≡ self.old.before }
         ensures err { OnErr result ((more : List Decision) × (self.new.applied.items ≡ self.old.applied.items ++ more)) }
         ensures only_memory { IsOkUnless result Fault.NoMemory }
     {
@@ -145,9 +154,9 @@ impl Slots {
 
     /// Where the next slot's decision is buffered, if it is. At most 16 are buffered.
     fn next_place(&self) -> Option<usize>
-        ensures { result ≡ position (is_at (length self.now.applied.items + 1)) self.now.buffer.items }
+        ensures { result ≡ position (is_at (next_in self.now)) self.now.buffer.items }
     {
-        let next = self.applied.len() as u64 + 1;
+        let next = self.before as u64 + 1 + self.applied.len() as u64;
         self.buffer
             .iter()
             .position(|decision| decision.get().slot.0 == next)
@@ -157,6 +166,7 @@ impl Slots {
     fn apply_at<A: Application>(&mut self, state: &mut A::State, place: usize) -> Result<(), Fault>
         requires { place < length self.old.buffer.items }
         ensures ok { OnOk result (AppliesOne A.after self.old state.old place self.new state.new) }
+        ensures before { self.new.before ≡ self.old.before }
         ensures err { OnErr result (self.new.applied.items ≡ self.old.applied.items) }
         ensures only_memory { IsOkUnless result Fault.NoMemory }
     {

@@ -69,6 +69,7 @@ module _ {D : Type 0} (says : Says D) where
     applied = f.applied;
     decided = f.decided;
     applies = f.applier;
+    first = f.first.1;
   }
 
   -- so it keeps the ledger

@@ -5,7 +5,7 @@ use Rattle.scp_wire.specs.ReaderLaws.{ReadingsAreInOrder, ReadingsGrow, Readings
 use Rattle.scp_pending.specs.Fetching.{RepliesAreAskedFor}
 use Rattle.scp_pending.specs.Linked.{NothingIsOfAStranger, WhoItIsStays}
 use Rattle.scp_outboxes.specs.Laws.{EmptySends, PutsKeepSends, GivesKeepSends}
-use Rattle.scp_ledger.specs.Journals.{JournalsPass}
+use Rattle.scp_ledger.specs.Journals.{JournalsPass, TakesGrow}
 use Rattle.scp_apply.specs.Applies.{AppliesPass}
 use Rattle.scp_theorem.specs.Kept.{RanKeepsLedger}
 
@@ -22,6 +22,7 @@ module _ {D : Type 0} (says : Says D) where
     pub read : ReadLaws
     pub stays : WhoItIsStays
     pub journals : JournalsPass says.level says.extracted says.combined says.place
+    pub grows : TakesGrow says.level says.extracted says.combined says.place
     pub applies : AppliesPass
 
   -- of what is kept and what was sent

@@ -55,7 +55,7 @@ module _ {D : Type 0} (says : Says D) where
       take_front [] ys = refl
       take_front (y ∷ xs) ys = ap (λ zs. y ∷ zs) (take_front xs ys)
 
-  pub journals_begin : PassBy → (me : NodeId) (local : QuorumTree) (peers : List NodeId) (v : LedgerView D) → v ≡ nothing_taken me local v.driver peers → IsLedger v → RunsBy says v → JournalsBy says me local peers [] [] v
+  pub journals_begin : PassBy → (me : NodeId) (local : QuorumTree) (peers : List NodeId) (v : LedgerView D) → v ≡ nothing_taken me local v.driver peers v.first → IsLedger v → RunsBy says v → JournalsBy says me local peers [] [] v
   journals_begin law = law.begins
 
   pub journals_step : PassBy → (me : NodeId) (local : QuorumTree) (peers : List NodeId) (took : List Ready) (onwards : List Onward) (old : LedgerView D) (x : Ready) (t : Took) (new : LedgerView D) → TakesBy says old x t new → IsLedger new → RunsBy says new → JournalsBy says me local peers took onwards old → JournalsBy says me local peers (took ++ x ∷ []) (onwards ++ option_to_list t.onward) new
@@ -87,14 +87,15 @@ module _ {D : Type 0} (says : Says D) where
         deciding = running;
         applier = s.applier;
         running = s.running;
+        first = s.first ∙ sym g.first;
         taken = s.taken;
         decided = g.decisions ∙ ap (λ ds. ds ++ decisions_on (option_to_list t.onward)) before ∙ append_assoc s.taken queue (decisions_on (option_to_list t.onward)) ∙ ap (λ ds. s.taken ++ ds) (sym (flat_map-append decision_on v.queue (option_to_list t.onward)));
         shared_out = s.shared_out;
       }
 
-window_at : (earlier xs : List Decision) (d : Decision) (more : List Decision) → AreInWindow earlier (xs ++ d ∷ more) → IsNext (earlier ++ xs) d
-window_at earlier [] d more a = subst (λ (ds : List Decision). IsNext ds d) (sym (append-nil earlier)) a.0
-window_at earlier (y ∷ ys) d more a = subst (λ (ds : List Decision). IsNext ds d) (append_assoc earlier (y ∷ []) ys) (window_at (earlier ++ y ∷ []) ys d more a.1)
+window_at : (first : ℕ) (earlier xs : List Decision) (d : Decision) (more : List Decision) → AreInWindow first earlier (xs ++ d ∷ more) → IsNext first (earlier ++ xs) d
+window_at first earlier [] d more a = subst (λ (ds : List Decision). IsNext first ds d) (sym (append-nil earlier)) a.0
+window_at first earlier (y ∷ ys) d more a = subst (λ (ds : List Decision). IsNext first ds d) (append_assoc earlier (y ∷ []) ys) (window_at first (earlier ++ y ∷ []) ys d more a.1)
 
 module _ {D : Type 0} (says : Says D) where
   next_decided : (v : DeciderView D) (d : Decision) (rest : List Onward) (s : IsSound says v) → v.queue ≡ Decided d ∷ rest → v.ledger.decisions ≡ s.taken ++ d ∷ decisions_on (rest ++ option_to_list v.hand)
@@ -103,7 +104,7 @@ module _ {D : Type 0} (says : Says D) where
   pub can_take : NextCanBeTaken → (v : DeciderView D) (x : Onward) (rest : List Onward) → IsSound says v → v.queue ≡ x ∷ rest → CanTake v.applier x
   can_take law v (Decided d) rest s q =
       law v.applier s.taken d s.applier s.running s.shared_out
-      (window_at [] s.taken d (decisions_on (rest ++ option_to_list v.hand)) (subst (λ (ds : List Decision). AreInWindow [] ds) (next_decided v d rest s q) s.ledger.placed))
+      (subst (λ (first : ℕ). IsNext first s.taken d) (sym s.first) (window_at v.ledger.first [] s.taken d (decisions_on (rest ++ option_to_list v.hand)) (subst (λ (ds : List Decision). AreInWindow v.ledger.first [] ds) (next_decided v d rest s q) s.ledger.placed)))
   can_take law v (Asked link slot) rest s q = tt
 
   pub sound_apply : (v : DeciderView D) (x : Onward) (rest : List Onward) (answer : Option (ℕ × Message)) (new : ApplierView) → v.queue ≡ x ∷ rest → ApplierTakes v.applier x answer new → IsApplier new → IsRunning new → IsSound says v → IsSound says (record v { queue = rest; applier = new })
@@ -114,6 +115,7 @@ module _ {D : Type 0} (says : Says D) where
     deciding = s.deciding;
     applier = known;
     running = running;
+    first = takes.1.first ∙ s.first;
     taken = s.taken ++ d ∷ [];
     decided = next_decided v d rest s q ∙ sym (append_assoc s.taken (d ∷ []) (decisions_on (rest ++ option_to_list v.hand)));
     shared_out = one_more s.taken v.applier.applied v.applier.buffer (new.applied ++ new.buffer) d s.shared_out takes.1.shared_out;
@@ -125,6 +127,7 @@ module _ {D : Type 0} (says : Says D) where
     deciding = s.deciding;
     applier = known;
     running = running;
+    first = ap (λ (w : ApplierView). w.first) takes.1 ∙ s.first;
     taken = s.taken;
     decided = s.decided ∙ ap (λ os. s.taken ++ decisions_on (os ++ option_to_list v.hand)) q;
     shared_out = subst (λ (w : ApplierView). IsPermutation s.taken (w.applied ++ w.buffer)) (sym takes.1) s.shared_out;
@@ -133,3 +136,8 @@ module _ {D : Type 0} (says : Says D) where
 pub takes_runs : (old : ApplierView) (x : Onward) (answer : Option (ℕ × Message)) (new : ApplierView) → old.failed ≡ false → ApplierTakes old x answer new → new.failed ≡ false
 takes_runs old (Decided d) answer new runs takes = takes.1.runs
 takes_runs old (Asked link slot) answer new runs takes = ap (λ (v : ApplierView). v.failed) takes.1 ∙ runs
+
+-- an applier keeps its first slot
+pub first_stays : (old : ApplierView) (x : Onward) (answer : Option (ℕ × Message)) (new : ApplierView) → ApplierTakes old x answer new → new.first ≡ old.first
+first_stays old (Decided d) answer new takes = takes.1.first
+first_stays old (Asked link slot) answer new takes = ap (λ (v : ApplierView). v.first) takes.1

@@ -21,6 +21,7 @@ module _ {D : Type 0} (says : Says D) where
   record Kept (past : List Exchange) (v : NodeView D) : Type 0 where
     came : List Inbound
     came_is : (past_of v.config past).came ≡ came ++ v.inbox
+    first : v.ledger.first ≡ 1
     keeps : KeepsLedger says.level says.extracted says.combined says.place (account_of past v came)
     sent : (link : ℕ) → IsSentOut (grounds_of v came) link (sent_to link past)
 
@@ -30,6 +31,7 @@ module _ {D : Type 0} (says : Says D) where
       record {
         came = f.arrived;
         came_is = f.inbox;
+        first = f.first.0;
         keeps = kept_at says law (past_of v.config past) v f;
         sent = sent_at says law past v h f;
       }
@@ -44,6 +46,7 @@ module _ {D : Type 0} (says : Says D) where
         is = inl (runs, refl, refl);
         driver = h.driver;
         steps = h.replies;
+        first = k.first;
         came = k.came;
         came_is = k.came_is;
         keeps = k.keeps;
@@ -61,6 +64,7 @@ module _ {D : Type 0} (says : Says D) where
         is = inr (record { failed = failed; event = x.event; reply = x.reply; fails = x.reply_fails; step = x.step; later = x.later; past_is = x.is; silent = x.silent_then; keeps = left });
         driver = x.theorem.driver;
         steps = subst (λ (c : Config). AreSteps says c nothing_heard (made x.theorem.driver c) x.earlier x.moment) (sym left.config) x.theorem.replies;
+        first = k.first;
         came = k.came;
         came_is = ap (λ (c : Config). (past_of c x.earlier).came) left.config ∙ k.came_is;
         keeps = k.keeps;

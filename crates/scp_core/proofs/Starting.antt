@@ -3,6 +3,9 @@ use Rattle.std.proofs.Common.{◌≡◌, ℕ, Bool, true, false, List, [], ◌�
 use Rattle.std.specs.Prelude.{Result, Ok, Err, IfOk, Some, slice_get, replicate, not, ◌&&◌, ◌||◌}
 use Rattle.scp_driver.specs.Driver.{Says}
 use Rattle.scp_types.specs.declared.names.NodeId.{NodeId}
+use Rattle.scp_ledger.specs.Runs.{nothing_taken}
+use Rattle.scp_ledger.specs.Seen.{LedgerView}
+use Rattle.scp_apply.specs.Applier.{ApplierView}
 use Rattle.scp_wire.specs.Connections.{same_node}
 use Rattle.scp_theorem.specs.Fates.{is_among}
 use Rattle.scp_core.specs.Config.{are_apart}
@@ -70,6 +73,9 @@ apart [] e = λ l m peer a b. absurd cc
 apart (p ∷ ps) e = λ l m peer a b. by_places p ps e (apart ps (last_and (not (is_among p ps)) (are_apart ps) e)) l m peer a b
 
 module _ {D : Type 0} (says : Says D) where
+  from_one : (v : NodeView D) → IsNew says v → v.ledger.first ≡ 1
+  from_one v n = ap (λ (w : LedgerView D). w.first) n.ledger
+
   starts : PassBy says → (v : NodeView D) → IsNew says v → Flows says nothing_heard v
   starts law v n = record {
     runs = n.runs;
@@ -86,10 +92,11 @@ module _ {D : Type 0} (says : Says D) where
     took = [];
     ready = rw (n.ready.0, n.hands.0) refl;
     onwards = [];
-    journal = journals_begin says law v.config.me v.config.set v.config.peers v.ledger n.ledger n.known n.deciding;
+    journal = journals_begin says law v.config.me v.config.set v.config.peers v.ledger (subst (λ (first : ℕ). v.ledger ≡ nothing_taken v.config.me v.config.set v.ledger.driver v.config.peers first) (sym (from_one v n)) n.ledger) n.known n.deciding;
     applied = [];
     decided = rw (n.decided.0, n.hands.1) refl;
     applier = n.applier;
+    first = (from_one v n, ap (λ (a : ApplierView). a.first) n.applier_is ∙ sym (from_one v n));
     ready_count = omega (arith, ap length n.ready.0);
     decided_count = omega (arith, ap length n.decided.0);
   }

@@ -28,7 +28,7 @@ use Rattle.scp_grounds.proofs.Basics.{there_is, peer_is}
 use Rattle.scp_grounds.proofs.Places.{same_node-is}
 use Rattle.scp_core.specs.declared.event.Event.{Event}
 use Rattle.scp_core.specs.declared.event.Event.TheVariants.{Open, Send, Close, Local, ReaderTake, ReaderPut, PendTake, PendPut, SlotTake, SlotPut, ApplyTake, Drain}
-use Rattle.scp_core.proofs.Deciding.{journals_step, applies_step}
+use Rattle.scp_core.proofs.Deciding.{journals_step, applies_step, first_stays}
 use Rattle.scp_core.proofs.Below.{StepLaws}
 use Rattle.scp_core.specs.History.{OnLink, Past, accepts, moves, tail_of, readings_of, changed, peer_at}
 use Rattle.scp_ledger.specs.Seen.{LedgerView}
@@ -98,6 +98,7 @@ module _ {D : Type 0} (says : Says D) where
     applied = f.applied;
     decided = f.decided;
     applier = f.applier;
+    first = f.first;
     ready_count = f.ready_count;
     decided_count = f.decided_count;
   }
@@ -128,6 +129,7 @@ module _ {D : Type 0} (says : Says D) where
     applied = f.applied;
     decided = f.decided;
     applier = f.applier;
+    first = f.first;
     ready_count = f.ready_count;
     decided_count = f.decided_count;
   }
@@ -201,6 +203,7 @@ module _ {D : Type 0} (says : Says D) where
       applied = f.applied;
       decided = f.decided;
       applier = f.applier;
+      first = f.first;
       ready_count = f.ready_count;
       decided_count = f.decided_count;
     }
@@ -235,6 +238,7 @@ module _ {D : Type 0} (says : Says D) where
       applied = f.applied;
       decided = f.decided;
       applier = f.applier;
+      first = f.first;
       ready_count = f.ready_count;
       decided_count = f.decided_count;
     }
@@ -286,6 +290,7 @@ module _ {D : Type 0} (says : Says D) where
           applied = f.applied;
           decided = f.decided;
           applier = f.applier;
+          first = f.first;
           ready_count = f.ready_count;
           decided_count = f.decided_count;
         }
@@ -313,6 +318,7 @@ module _ {D : Type 0} (says : Says D) where
       applied = f.applied;
       decided = f.decided;
       applier = f.applier;
+      first = f.first;
       ready_count = f.ready_count;
       decided_count = f.decided_count;
     }
@@ -340,6 +346,7 @@ module _ {D : Type 0} (says : Says D) where
           applied = f.applied;
           decided = f.decided;
           applier = f.applier;
+          first = f.first;
           ready_count = f.ready_count;
           decided_count = f.decided_count;
         }
@@ -364,6 +371,7 @@ module _ {D : Type 0} (says : Says D) where
       applied = f.applied;
       decided = f.decided;
       applier = f.applier;
+      first = f.first;
       ready_count = omega (arith, f.ready_count, length-append v.ready (x ∷ []));
       decided_count = f.decided_count;
     }
@@ -388,6 +396,7 @@ module _ {D : Type 0} (says : Says D) where
       applied = f.applied;
       decided = way-fill f.onwards f.applied v.decided v.slot_hand took.onward empty f.decided;
       applier = f.applier;
+      first = ((laws.grows v.ledger x took after' takes).first ∙ f.first.0, f.first.1 ∙ sym (laws.grows v.ledger x took after' takes).first);
       ready_count = omega (arith, f.ready_count, ap length queue);
       decided_count = f.decided_count;
     }
@@ -412,6 +421,7 @@ module _ {D : Type 0} (says : Says D) where
       applied = f.applied;
       decided = way-put f.onwards f.applied v.decided v.slot_hand x some f.decided;
       applier = f.applier;
+      first = f.first;
       ready_count = f.ready_count;
       decided_count = omega (arith, f.decided_count, length-append v.decided (x ∷ []));
     }
@@ -436,6 +446,7 @@ module _ {D : Type 0} (says : Says D) where
       applied = f.applied ++ x ∷ [];
       decided = way-take f.onwards f.applied v.decided rest v.slot_hand x queue f.decided;
       applier = applies_step laws.applies f.applied v.applier x answer after' takes known running f.applier;
+      first = (f.first.0, first_stays v.applier x answer after' takes ∙ f.first.1);
       ready_count = f.ready_count;
       decided_count = omega (arith, f.decided_count, ap length queue);
     }

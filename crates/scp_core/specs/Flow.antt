@@ -52,6 +52,8 @@ module _ {D : Type 0} (says : Says D) where
     pub applied : List Onward
     pub decided : IsOnWay onwards applied v.decided v.slot_hand
     pub applier : Applies applied v.applier
+    -- the slot stage and the applier began with slot 1
+    pub first : (v.ledger.first ≡ 1) × (v.applier.first ≡ v.ledger.first)
     -- lengths by what was put and taken
     pub ready_count : p.ready_put ≡ p.ready_taken + length v.ready
     pub decided_count : p.decided_put ≡ p.decided_taken + length v.decided

@@ -27,6 +27,8 @@ module _ {D : Type 0} where
     pub past_is : past ≡ earlier ++ later
     pub moment : NodeView D
     pub is : ((later ≡ []) × (v ≡ moment)) ⊎ ShowsStill moment v
+    -- the first slot is slot 1
+    pub first : (books_at earlier moment).first ≡ 1
     pub headline : Headline (books_at earlier moment)
 
 module _ {D : Type 0} (says : Says D) where

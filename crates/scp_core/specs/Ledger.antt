@@ -74,6 +74,8 @@ module _ {D : Type 0} (says : Says D) where
     -- these exchanges led to that, step by step, from the node as it is made, with its application
     pub driver : D
     pub steps : AreSteps says v.config nothing_heard (made driver v.config) earlier moment
+    -- it began with slot 1
+    pub first : moment.ledger.first ≡ 1
     -- what came to the pending stage: all that was put into the inbox, except what waits there
     pub came : List Inbound
     pub came_is : (past_of v.config earlier).came ≡ came ++ moment.inbox

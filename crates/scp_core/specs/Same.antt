@@ -49,6 +49,7 @@ pub record ShowSameLedger {D : Type 0} (v w : LedgerView D) : Type 0 where
   pub local : v.local ≡ w.local
   pub driver : v.driver ≡ w.driver
   pub peers : v.peers ≡ w.peers
+  pub first : v.first ≡ w.first
   pub failed : v.failed ≡ w.failed
   pub journal : map said v.journal ≡ map said w.journal
   pub decisions : v.decisions ≡ w.decisions

@@ -1,5 +1,5 @@
 -- The ledger theorem: what holds of every list of events, their replies, and the node that they left.
-use Rattle.std.specs.Prelude.{◌≡◌, true, false, List, [], ◌∷◌, ◌++◌, ◌⊎◌, None, length, replicate}
+use Rattle.std.specs.Prelude.{ℕ, ◌≡◌, true, false, List, [], ◌∷◌, ◌++◌, ◌⊎◌, None, length, replicate}
 use Rattle.scp_driver.specs.Driver.{Says}
 use Rattle.scp_outboxes.specs.Handing.{empty_outbox}
 use Rattle.scp_pending.specs.Rules.{fresh}
@@ -13,9 +13,10 @@ use Rattle.scp_core.specs.Node.{NodeView, Step, Keeps, new_link}
 use Rattle.scp_core.specs.Flow.{Flows}
 
 module _ {D : Type 0} where
-  -- The node of an application and a configuration as it is made: it runs, no link was open, and its stages, queues, hands and outboxes hold nothing.
-  abbrev pub made : D → Config → NodeView D
-  made driver c = record {
+  -- The node of an application and a configuration as it begins with a first slot: it runs, no link was open, and its stages, queues, hands and
+  -- outboxes hold nothing.
+  abbrev pub begun : D → Config → ℕ → NodeView D
+  begun driver c first = record {
     config = c;
     failed = false;
     links = replicate (length c.peers) (new_link c.capacities.link);
@@ -25,15 +26,19 @@ module _ {D : Type 0} where
     pend_hand = None;
     ready = [];
     ready_room = c.capacities.ready;
-    ledger = nothing_taken c.me c.set driver c.peers;
+    ledger = nothing_taken c.me c.set driver c.peers first;
     slot_hand = None;
     last_command = None;
     last_said = [];
     decided = [];
     decided_room = c.capacities.decided;
-    applier = record { failed = false; applied = []; buffer = [] };
+    applier = record { first = first; failed = false; applied = []; buffer = [] };
     outboxes = replicate (length c.peers) empty_outbox;
   }
+
+  -- the node as it is made: it begins with slot 1
+  abbrev pub made : D → Config → NodeView D
+  made driver c = begun driver c 1
 
 module _ {D : Type 0} (says : Says D) where
   -- the exchange was a step from a node of this configuration that fits its past as `Flows` says

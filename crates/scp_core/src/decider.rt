@@ -77,7 +77,7 @@ impl<A: Application + Drop + Copy> Decider<A> {
             last_command: None,
             last_said: SaidList::new(Vec::new(alloc)),
             queue: HeapCircularBuffer::with_capacity(alloc, room)?,
-            applier: Applier::new(alloc),
+            applier: Applier::new(alloc, 0),
         })
     }
 

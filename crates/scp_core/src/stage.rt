@@ -69,12 +69,12 @@ impl<A: Application + Drop + Copy> SlotStage<A> {
         peers: Vec<NodeId>,
     ) -> SlotStage<A>
         requires few { length peers.items ≤ 255 }
-        ensures new { result ≡ nothing_taken me set.value application peers.items }
+        ensures new { result ≡ nothing_taken me set.value application peers.items 1 }
         ensures known { IsLedger result }
         ensures running { RunsBy A.says result }
     {
         SlotStage {
-            ledger: Ledger::new(alloc, me, set, application, peers),
+            ledger: Ledger::new(alloc, me, set, application, peers, 0),
             cut: None,
         }
     }

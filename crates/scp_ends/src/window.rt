@@ -2,7 +2,7 @@
 use crate::rule::Law;
 use scp_ledger::Onward;
 
-/// Each decision that is sent is for one of the 16 slots from the lowest one without a
+/// Each decision that is sent is for one of the 16 slots from the lowest one, from slot 1 on, without a
 /// decision sent before. No decision for its own slot was sent before.
 pub struct InWindow;
 
@@ -10,7 +10,7 @@ impl Law<Onward> for InWindow {
     ghost use Rattle.scp_ledger.specs.Onwards.{KeepsWindow};
     ghost use Rattle.scp_ends.specs.Window.{keeps_window-front};
 
-    ghost fits = { KeepsWindow };
+    ghost fits = { KeepsWindow 1 };
 
     ghost at_first = { tt };
 

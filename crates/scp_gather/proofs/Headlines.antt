@@ -1,5 +1,5 @@
 -- What is reported of a node keeps the headline.
-use Rattle.std.proofs.Common.{List, sym, subst}
+use Rattle.std.proofs.Common.{ℕ, List, sym, subst}
 use Rattle.scp_driver.specs.Driver.{Says}
 use Rattle.scp_ledger.specs.declared.journal.Decision.{Decision}
 use Rattle.scp_ledger.specs.declared.journal.Fate.{Fate}
@@ -12,5 +12,6 @@ module _ {D : Type 0} (says : Says D) where
   pub reports_keep_headline : LedgerKeepsHeadline says.level says.extracted says.combined says.place → ReportsKeepHeadline says
   reports_keep_headline law = λ me set peers e journal parked applied is.
       let books : Books = books_of (account_gathered me set peers e) in
-      let first : Headline (record books { journal = journal }) = subst (λ (j : List Fate). Headline (record books { journal = j })) (sym is.journal_is) (law (account_gathered me set peers e) is.gathered.keeps) in
-      subst (λ (d : List Decision). Headline (record books { journal = journal; applied = d })) (sym is.applied_is) first
+      let begun : Headline (record books { first = 1 }) = subst (λ (n : ℕ). Headline (record books { first = n })) is.gathered.first (law (account_gathered me set peers e) is.gathered.keeps) in
+      let told : Headline (record books { first = 1; journal = journal }) = subst (λ (j : List Fate). Headline (record books { first = 1; journal = j })) (sym is.journal_is) begun in
+      subst (λ (d : List Decision). Headline (record books { first = 1; journal = journal; applied = d })) (sym is.applied_is) told

@@ -212,6 +212,7 @@ module _ {D : Type 0} (says : Says D) where
       applied = values e.apply.input.got;
       decided = sym onwards ∙ sym (append-nil (values e.apply.input.got));
       applies = w.applies.all.applies;
+      first = w.applies.all.from_one ∙ sym w.journals.all.from_one;
     }
 
     keeps_is : KeepsLedger says.level says.extracted says.combined says.place account
@@ -284,6 +285,7 @@ module _ {D : Type 0} (says : Says D) where
     gathered_is : Gathered says me set peers e
     gathered_is = record {
       keeps = keeps_is;
+      first = w.journals.all.from_one;
       read = read_is;
       told = told_is;
       shape = shape_is;

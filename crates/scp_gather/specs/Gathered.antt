@@ -103,6 +103,8 @@ module _ {D : Type 0} (says : Says D) where
   pub record Gathered (me : NodeId) (set : QuorumTree) (peers : List NodeId) (e : Left D) : Type 0 where
     -- the ledger theorem, of what was sent over the links and what came to the pending stage
     pub keeps : KeepsLedger says.level says.extracted says.combined says.place (account_gathered me set peers e)
+    -- the slot stage began with slot 1
+    pub first : e.slot.stage.ledger.first ≡ 1
     -- what came is what each link's items are read as, and the commands, each in order
     pub read : (l : ℕ) → (peer : NodeId) → slice_get peers l ≡ Some peer → of_peer peer (values e.pend.input.got) ≡ readings unread (sent_over e.links l)
     pub told : filter is_command (values e.pend.input.got) ≡ e.local.sent

@@ -13,9 +13,10 @@ use Rattle.scp_gather.specs.Left.{Left}
 use Rattle.scp_gather.specs.Report.{IsReportOf}
 
 module _ {D : Type 0} where
-  -- its books: what went over its links and what it still holds, from what its threads left; the journal and the applied list are its report's
+  -- its books, from slot 1 on: what went over its links and what it still holds, from what its threads left; the journal and the applied list
+  -- are its report's
   abbrev pub books_reported : NodeId → QuorumTree → List NodeId → Left D → List Fate → List Decision → Books
-  books_reported me set peers e journal applied = record (books_of (account_gathered me set peers e)) { journal = journal; applied = applied }
+  books_reported me set peers e journal applied = record (books_of (account_gathered me set peers e)) { first = 1; journal = journal; applied = applied }
 
 module _ {D : Type 0} (says : Says D) where
   -- the headline holds of a node's report

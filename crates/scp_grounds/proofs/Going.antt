@@ -119,7 +119,7 @@ module _ {D : Type 0} (says : Says D) where
       subst (λ (o : List Outgoing). Stands g new o) (append_assoc out (out_by t) (outs_of takes)) (all_taken g leads.0 takes new (out ++ out_by t) leads.2 rest next)
 
 module _ {D : Type 0} where
-  first_stands : (g : Grounds) (v : LedgerView D) → v ≡ nothing_taken g.who.me g.who.set v.driver g.who.peers → Stands g v []
+  first_stands : (g : Grounds) (v : LedgerView D) → v ≡ nothing_taken g.who.me g.who.set v.driver g.who.peers v.first → Stands g v []
   first_stands g v is = record {
     me_is = ap (λ (w : LedgerView D). w.me) is;
     set_is = ap (λ (w : LedgerView D). w.local) is;
@@ -175,7 +175,7 @@ module _ {D : Type 0} (says : Says D) where
     where
       whole : (g : Grounds) (replies said answers : List Outgoing) → AreHandedOut says g replies said answers → (link : ℕ) → MayGo g link (handed_by replies link) (handed_by said link) (handed_by answers link)
       whole g replies said answers h link =
-          let begun : LedgerView D = nothing_taken g.who.me g.who.set h.ledger.driver g.who.peers in
+          let begun : LedgerView D = nothing_taken g.who.me g.who.set h.ledger.driver g.who.peers h.ledger.first in
           let st : Stands g h.ledger (outs_of h.takes) = all_taken says g begun h.takes h.ledger [] h.leads h.commands (first_stands g begun refl) in
           let fit : AreFit g h.ledger said = subst (λ (o : List Outgoing). AreFit g h.ledger o) (sym h.said_are) (subst (λ (x : Grounds). AreFit x h.ledger (outs_of h.takes)) (ledger_is g h.ledger h.journal_is h.decisions_are) st.fit) in
           record {

@@ -25,7 +25,7 @@ module _ {D : Type 0} (says : Says D) where
     pub replies_are : replies ≡ replies_from (start_of g.who) g.taken
     pub ledger : LedgerView D
     pub takes : List Taking
-    pub leads : LeadsBy says (nothing_taken g.who.me g.who.set ledger.driver g.who.peers) takes ledger
+    pub leads : LeadsBy says (nothing_taken g.who.me g.who.set ledger.driver g.who.peers ledger.first) takes ledger
     pub said_are : said ≡ outs_of takes
     pub commands : (command : Command) → Contains (commands_of (things takes)) command → Contains (commands_in g.taken) command
     pub journal_is : g.journal ≡ ledger.journal

@@ -26,6 +26,7 @@ use Rattle.scp_ledger.specs.Decisions.{IsFounded}
 use Rattle.scp_ledger.specs.Decisions.{RestsOn as IsFoundedOn}
 use Rattle.scp_ledger.specs.Marks.{marks_of as marks_on}
 use Rattle.scp_ledger.specs.Verdicts.{HasItsSet, link_of}
+use Rattle.scp_apply.specs.Applied.{AreInOrder}
 use Rattle.scp_theorem.specs.Account.{Account}
 use Rattle.scp_theorem.specs.Kept.{HasItsFates, leaving, line_held, line_sent, slots_sent, start_of}
 use Rattle.scp_headline.specs.Books.{waiter_of, books_of, LedgerKeepsHeadline}
@@ -93,6 +94,6 @@ ledger_keeps_headline level extracted combined place = λ a keeps. record {
   delays_none = delays_none a.pending.settled keeps.led;
   one_decision = keeps.decisions.one;
   grounds = All-weaker (IsFounded a.me a.set (link_of a.peers) a.ledger.asked a.ledger.journal) (λ (d : Decision). RestsOn (books_of a) d d.origin) (λ d is. rests_on a d d.origin is) a.ledger.decisions keeps.decisions.founded;
-  in_order = keeps.applied.in_order;
+  in_order = subst (λ (first : ℕ). AreInOrder first a.applier.applied) keeps.applied.first keeps.applied.in_order;
   decided = keeps.applied.decided;
 }

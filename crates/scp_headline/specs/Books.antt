@@ -36,6 +36,7 @@ books_of a = record {
   waiting = λ c. map waiter_of (parked_of c a.pending.settled.queues);
   behind = λ l c. marks_in c a.inbox ++ marks_in c (a.upcoming l);
   has_set = λ hash. is_some (lookup hash a.pending.settled.store);
+  first = a.ledger.first;
   journal = a.ledger.journal;
   decisions = a.ledger.decisions;
   applied = a.applier.applied;

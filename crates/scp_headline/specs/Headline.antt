@@ -50,7 +50,8 @@ pub record Books : Type 0 where
   pub behind : ℕ → ConnId → List Mark
   -- whether it has a quorum set of this hash
   pub has_set : Hash → Bool
-  -- the fate of each message; the decisions; and those of them that are applied
+  -- the slot that it began with; the fate of each message; the decisions; and those of them that are applied
+  pub first : ℕ
   pub journal : List Fate
   pub decisions : List Decision
   pub applied : List Decision
@@ -129,6 +130,6 @@ pub record Headline (b : Books) : Type 0 where
   -- each slot has at most one decision, and each decision rests on a quorum or on a taken record
   pub one_decision : OnePerSlot b.decisions
   pub grounds : All (λ d. RestsOn b d d.origin) b.decisions
-  -- slots 1 to n are applied, once each and in order, each with its decision
-  pub in_order : AreInOrder 1 b.applied
+  -- the slots from the first on are applied, once each and in order, each with its decision
+  pub in_order : AreInOrder b.first b.applied
   pub decided : All (Contains b.decisions) b.applied

@@ -63,6 +63,7 @@ record Goes {D : Type 0} (old : LedgerView D) (x : Ready) (t : Took) (new : Ledg
   requests : requests_on (option_to_list t.onward) ≡ flat_map (request_by old.peers) fates
   asked : (a : Asking) → is_asked new.asked a ≡ true → (is_asked old.asked a ≡ true) ⊎ Contains (passed x) (Ask a.link a.slot)
   asked_stay : Any IsToAll t.outgoing → new.asked ≡ old.asked
+  first : new.first ≡ old.first
   driver : new.driver ≡ old.driver
   heard : fresh_in fates ≡ freshly_heard (record { thing = x; gave = t })
   verdicts : flat_map verdict_in fates ≡ verdict_by (record { thing = x; gave = t })
@@ -155,6 +156,7 @@ module _ {D : Type 0} (level : D → ℕ → List ℕ → Level) (extracted : D 
     me_is = ap (λ (v : LedgerView D). v.me) r.same;
     local_is = ap (λ (v : LedgerView D). v.local) r.same;
     peers_are = ap (λ (v : LedgerView D). v.peers) r.same;
+    first = ap (λ (v : LedgerView D). v.first) r.same;
     fates = fates;
     journal = r.journal;
     entries = says.entries;
@@ -175,6 +177,7 @@ module _ {D : Type 0} (level : D → ℕ → List ℕ → Level) (extracted : D 
     me_is = ap (λ (v : LedgerView D). v.me) p.same;
     local_is = ap (λ (v : LedgerView D). v.local) p.same;
     peers_are = ap (λ (v : LedgerView D). v.peers) p.same;
+    first = ap (λ (v : LedgerView D). v.first) p.same;
     fates = fates;
     journal = ap (λ (v : LedgerView D). v.journal) p.same;
     entries = says.entries;
@@ -217,6 +220,7 @@ module _ {D : Type 0} (level : D → ℕ → List ℕ → Level) (extracted : D 
     me_is = ap (λ (v : LedgerView D). v.me) h.same;
     local_is = ap (λ (v : LedgerView D). v.local) h.same;
     peers_are = ap (λ (v : LedgerView D). v.peers) h.same;
+    first = ap (λ (v : LedgerView D). v.first) h.same;
     fates = [];
     journal = ap (λ (v : LedgerView D). v.journal) h.same ∙ sym (append-nil old.journal);
     entries = refl;
@@ -276,6 +280,7 @@ module _ {D : Type 0} (level : D → ℕ → List ℕ → Level) (extracted : D 
         me_is = ap (λ (v : LedgerView D). v.me) h.same;
         local_is = ap (λ (v : LedgerView D). v.local) h.same;
         peers_are = ap (λ (v : LedgerView D). v.peers) h.same;
+        first = ap (λ (v : LedgerView D). v.first) h.same;
         fates = Taken conn seq (Record at value) set Deciding ∷ [];
         journal = h.journal;
         entries = ap (λ (s : Option QuorumTree). Entry.taken conn seq (Record at value) s ∷ []) is;
@@ -295,6 +300,7 @@ module _ {D : Type 0} (level : D → ℕ → List ℕ → Level) (extracted : D 
     me_is = ap (λ (v : LedgerView D). v.me) h.same;
     local_is = ap (λ (v : LedgerView D). v.local) h.same;
     peers_are = ap (λ (v : LedgerView D). v.peers) h.same;
+    first = ap (λ (v : LedgerView D). v.first) h.same;
     fates = Taken conn seq (GetRecord at) set Forwarded ∷ [];
     journal = ap (λ (v : LedgerView D). v.journal) h.same;
     entries = ap (λ (s : Option QuorumTree). Entry.taken conn seq (GetRecord at) s ∷ []) is;
@@ -337,19 +343,21 @@ module _ {D : Type 0} (level : D → ℕ → List ℕ → Level) (extracted : D 
 
   -- what is taken, and what is there
   pub takes_grow : TakesGrow level extracted combined place
-  takes_grow = λ old x t new takes. (let g = goes old x t new takes in record { runs = g.runs; fates = g.fates; journal = g.journal; decisions = g.decisions; asked = g.asked_stay })
+  takes_grow = λ old x t new takes. (let g = goes old x t new takes in record { runs = g.runs; first = g.first; fates = g.fates; journal = g.journal; decisions = g.decisions; asked = g.asked_stay })
 
-  run_step : (me : NodeId) (local : QuorumTree) (peers : List NodeId) (takes : List Taking) (old : LedgerView D) (x : Ready) (t : Took) (new : LedgerView D) → Takes level extracted combined place old x t new → IsLowest old.decisions old.lowest → old.me ≡ me → old.peers ≡ peers → IsRun level extracted combined place me local peers takes old → IsRun level extracted combined place me local peers (takes ++ record { thing = x; gave = t } ∷ []) new
+  run_step : (me : NodeId) (local : QuorumTree) (peers : List NodeId) (takes : List Taking) (old : LedgerView D) (x : Ready) (t : Took) (new : LedgerView D) → Takes level extracted combined place old x t new → IsLowest old.first old.decisions old.lowest → old.me ≡ me → old.peers ≡ peers → IsRun level extracted combined place me local peers takes old → IsRun level extracted combined place me local peers (takes ++ record { thing = x; gave = t } ∷ []) new
   run_step me local peers takes old x t new h lowest me_is peers_are r =
       let g = goes old x t new h in
       let one : Taking = record { thing = x; gave = t } in
-      let here : IsJudged (level old.driver) me peers (stood_by takes) one =
-      subst (λ (ps : List NodeId). IsJudged (level old.driver) me ps (stood_by takes) one) peers_are
-      (subst (λ (n : NodeId). IsJudged (level old.driver) n old.peers (stood_by takes) one) me_is
+      let here : IsJudged old.first (level old.driver) me peers (stood_by takes) one =
+      subst (λ (ps : List NodeId). IsJudged old.first (level old.driver) me ps (stood_by takes) one) peers_are
+      (subst (λ (n : NodeId). IsJudged old.first (level old.driver) n old.peers (stood_by takes) one) me_is
       (judged_here level extracted combined place takes old x t new h lowest r.decided r.heard r.asked)) in
       record {
-        leads = subst (λ (d : D). Leads level extracted combined place (nothing_taken me local d peers) (takes ++ one ∷ []) new) (sym g.driver) (leads_push level extracted combined place (nothing_taken me local old.driver peers) old takes x t new r.leads h);
-        judged = subst (λ (d : D). AreJudged (level d) me peers [] (takes ++ one ∷ [])) (sym g.driver) (judged_push (level old.driver) me peers [] takes one r.judged here);
+        leads = subst (λ (f : ℕ). Leads level extracted combined place (nothing_taken me local new.driver peers f) (takes ++ one ∷ []) new) (sym g.first)
+            (subst (λ (d : D). Leads level extracted combined place (nothing_taken me local d peers old.first) (takes ++ one ∷ []) new) (sym g.driver) (leads_push level extracted combined place (nothing_taken me local old.driver peers old.first) old takes x t new r.leads h));
+        judged = subst (λ (f : ℕ). AreJudged f (level new.driver) me peers [] (takes ++ one ∷ [])) (sym g.first)
+            (subst (λ (d : D). AreJudged old.first (level d) me peers [] (takes ++ one ∷ [])) (sym g.driver) (judged_push old.first (level old.driver) me peers [] takes one r.judged here));
         verdicts = ap (flat_map verdict_in) g.journal ∙ flat_map-append verdict_in old.journal g.fates ∙ ap (λ vs. vs ++ flat_map verdict_in g.fates) r.verdicts ∙ ap (λ vs. flat_map verdict_by takes ++ vs) (g.verdicts ∙ sym (append-nil (verdict_by one))) ∙ sym (flat_map-append verdict_by takes (one ∷ []));
         decided = g.decisions ∙ ap (λ ds. ds ++ decisions_on (option_to_list t.onward)) r.decided ∙ sym (decisions_pushed takes one);
         heard = ap fresh_in g.journal ∙ fresh_in-append old.journal g.fates ∙ ap (λ hs. hs ++ fresh_in g.fates) r.heard ∙ ap (λ hs. (stood_by takes).heard ++ hs) g.heard ∙ sym (heard_pushed takes one);
@@ -384,7 +392,7 @@ module _ {D : Type 0} (level : D → ℕ → List ℕ → Level) (extracted : D 
         running = running;
       }
 
-  begins : (me : NodeId) (local : QuorumTree) (peers : List NodeId) (v : LedgerView D) → v ≡ nothing_taken me local v.driver peers → IsLedger v → LedgerRuns level place v → Journals level extracted combined place me local peers [] [] v
+  begins : (me : NodeId) (local : QuorumTree) (peers : List NodeId) (v : LedgerView D) → v ≡ nothing_taken me local v.driver peers v.first → IsLedger v → LedgerRuns level place v → Journals level extracted combined place me local peers [] [] v
   begins me local peers v is known running =
       let journal : v.journal ≡ [] = ap (λ (w : LedgerView D). w.journal) is in
       let decisions : v.decisions ≡ [] = ap (λ (w : LedgerView D). w.decisions) is in
@@ -417,40 +425,40 @@ module _ {D : Type 0} (level : D → ℕ → List ℕ → Level) (extracted : D 
 
 -- ---- the window
 
-window_at : (earlier xs : List Decision) (d : Decision) (more : List Decision) → AreInWindow earlier (xs ++ d ∷ more) → IsNext (earlier ++ xs) d
-window_at earlier [] d more a = subst (λ (ds : List Decision). IsNext ds d) (sym (append-nil earlier)) a.0
-window_at earlier (y ∷ ys) d more a = subst (λ (ds : List Decision). IsNext ds d) (append_assoc earlier (y ∷ []) ys) (window_at (earlier ++ y ∷ []) ys d more a.1)
+window_at : (first : ℕ) (earlier xs : List Decision) (d : Decision) (more : List Decision) → AreInWindow first earlier (xs ++ d ∷ more) → IsNext first (earlier ++ xs) d
+window_at first earlier [] d more a = subst (λ (ds : List Decision). IsNext first ds d) (sym (append-nil earlier)) a.0
+window_at first earlier (y ∷ ys) d more a = subst (λ (ds : List Decision). IsNext first ds d) (append_assoc earlier (y ∷ []) ys) (window_at first (earlier ++ y ∷ []) ys d more a.1)
 
-window_front : (earlier xs ys : List Decision) → AreInWindow earlier (xs ++ ys) → AreInWindow earlier xs
-window_front earlier [] ys a = tt
-window_front earlier (x ∷ xs) ys a = (a.0, window_front (earlier ++ x ∷ []) xs ys a.1)
+window_front : (first : ℕ) (earlier xs ys : List Decision) → AreInWindow first earlier (xs ++ ys) → AreInWindow first earlier xs
+window_front first earlier [] ys a = tt
+window_front first earlier (x ∷ xs) ys a = (a.0, window_front first (earlier ++ x ∷ []) xs ys a.1)
 
-window_push : (earlier xs : List Decision) (d : Decision) → AreInWindow earlier xs → IsNext (earlier ++ xs) d → AreInWindow earlier (xs ++ d ∷ [])
-window_push earlier [] d a next = (subst (λ (ds : List Decision). IsNext ds d) (append-nil earlier) next, tt)
-window_push earlier (x ∷ xs) d a next = (a.0, window_push (earlier ++ x ∷ []) xs d a.1 (subst (λ (ds : List Decision). IsNext ds d) (sym (append_assoc earlier (x ∷ []) xs)) next))
+window_push : (first : ℕ) (earlier xs : List Decision) (d : Decision) → AreInWindow first earlier xs → IsNext first (earlier ++ xs) d → AreInWindow first earlier (xs ++ d ∷ [])
+window_push first earlier [] d a next = (subst (λ (ds : List Decision). IsNext first ds d) (append-nil earlier) next, tt)
+window_push first earlier (x ∷ xs) d a next = (a.0, window_push first (earlier ++ x ∷ []) xs d a.1 (subst (λ (ds : List Decision). IsNext first ds d) (sym (append_assoc earlier (x ∷ []) xs)) next))
 
-kept_front : (xs ys : List Onward) → KeepsWindow (xs ++ ys) → KeepsWindow xs
-kept_front xs ys k = window_front [] (decisions_on xs) (decisions_on ys) (subst (λ (ds : List Decision). AreInWindow [] ds) (flat_map-append decision_on xs ys) k)
+kept_front : (first : ℕ) (xs ys : List Onward) → KeepsWindow first (xs ++ ys) → KeepsWindow first xs
+kept_front first xs ys k = window_front first [] (decisions_on xs) (decisions_on ys) (subst (λ (ds : List Decision). AreInWindow first [] ds) (flat_map-append decision_on xs ys) k)
 
-kept_push : (xs : List Onward) (x : Onward) → KeepsWindow xs → MaySend xs x → KeepsWindow (xs ++ x ∷ [])
-kept_push xs (Decided d) k may = subst (λ (ds : List Decision). AreInWindow [] ds) (sym (flat_map-append decision_on xs (Decided d ∷ []))) (window_push [] (decisions_on xs) d k may)
-kept_push xs (Asked link slot) k may = subst (λ (ds : List Decision). AreInWindow [] ds) (sym (append-nil (decisions_on xs)) ∙ sym (flat_map-append decision_on xs (Asked link slot ∷ []))) k
+kept_push : (first : ℕ) (xs : List Onward) (x : Onward) → KeepsWindow first xs → MaySend first xs x → KeepsWindow first (xs ++ x ∷ [])
+kept_push first xs (Decided d) k may = subst (λ (ds : List Decision). AreInWindow first [] ds) (sym (flat_map-append decision_on xs (Decided d ∷ []))) (window_push first [] (decisions_on xs) d k may)
+kept_push first xs (Asked link slot) k may = subst (λ (ds : List Decision). AreInWindow first [] ds) (sym (append-nil (decisions_on xs)) ∙ sym (flat_map-append decision_on xs (Asked link slot ∷ []))) k
 
-pub kept_last : (xs : List Onward) (x : Onward) → KeepsWindow (xs ++ x ∷ []) → MaySend xs x
-kept_last xs (Decided d) k = window_at [] (decisions_on xs) d [] (subst (λ (ds : List Decision). AreInWindow [] ds) (flat_map-append decision_on xs (Decided d ∷ [])) k)
-kept_last xs (Asked link slot) k = tt
+pub kept_last : (first : ℕ) (xs : List Onward) (x : Onward) → KeepsWindow first (xs ++ x ∷ []) → MaySend first xs x
+kept_last first xs (Decided d) k = window_at first [] (decisions_on xs) d [] (subst (λ (ds : List Decision). AreInWindow first [] ds) (flat_map-append decision_on xs (Decided d ∷ [])) k)
+kept_last first xs (Asked link slot) k = tt
 
 pub window_is_kept : WindowIsKept
 window_is_kept = record { begins = kept_front; more = kept_push; last = kept_last }
 
 module _ {D : Type 0} (level : D → ℕ → List ℕ → Level) (extracted : D → ℕ → List ℕ → Option (List ℕ)) (combined : D → ℕ → List (List ℕ) → List ℕ) (place : D → ℕ → ℕ → ℕ → ℕ) where
-  sent_next : (onwards : List Onward) (o : Option Onward) → KeepsWindow (onwards ++ option_to_list o) → IfSome o (MaySend onwards)
-  sent_next onwards None k = tt
-  sent_next onwards (Some x) k = kept_last onwards x k
+  sent_next : (first : ℕ) (onwards : List Onward) (o : Option Onward) → KeepsWindow first (onwards ++ option_to_list o) → IfSome o (MaySend first onwards)
+  sent_next first onwards None k = tt
+  sent_next first onwards (Some x) k = kept_last first onwards x k
 
   pub ledger_keeps_window : LedgerKeepsWindow level extracted combined place
   ledger_keeps_window = λ me local peers took onwards old x t new takes known j.
       let g = goes level extracted combined place old x t new takes in
       let after : decisions_on (onwards ++ option_to_list t.onward) ≡ new.decisions = flat_map-append decision_on onwards (option_to_list t.onward) ∙ ap (λ ds. ds ++ decisions_on (option_to_list t.onward)) j.decided ∙ sym g.decisions in
-      let kept : KeepsWindow (onwards ++ option_to_list t.onward) = subst (λ (ds : List Decision). AreInWindow [] ds) (sym after) known.placed in
-      (kept, sent_next onwards t.onward kept)
+      let kept : KeepsWindow new.first (onwards ++ option_to_list t.onward) = subst (λ (ds : List Decision). AreInWindow new.first [] ds) (sym after) known.placed in
+      (kept, sent_next new.first onwards t.onward kept)

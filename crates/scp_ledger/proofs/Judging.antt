@@ -145,12 +145,12 @@ module _ {D : Type 0} (level : D → ℕ → List ℕ → Level) (extracted : D 
   judged_at old (ready.Local c) t new h = command_judged old c t new h
 
   -- so over what was taken before, where that is what the ledger has
-  pub judged_here : (takes : List Taking) (old : LedgerView D) (x : Ready) (t : Took) (new : LedgerView D) → Takes level extracted combined place old x t new → IsLowest old.decisions old.lowest → old.decisions ≡ (stood_by takes).decisions → fresh_in old.journal ≡ (stood_by takes).heard → ((a : Asking) → is_asked old.asked a ≡ (stood_by takes).asked a) → IsJudged (level old.driver) old.me old.peers (stood_by takes) (record { thing = x; gave = t })
+  pub judged_here : (takes : List Taking) (old : LedgerView D) (x : Ready) (t : Took) (new : LedgerView D) → Takes level extracted combined place old x t new → IsLowest old.first old.decisions old.lowest → old.decisions ≡ (stood_by takes).decisions → fresh_in old.journal ≡ (stood_by takes).heard → ((a : Asking) → is_asked old.asked a ≡ (stood_by takes).asked a) → IsJudged old.first (level old.driver) old.me old.peers (stood_by takes) (record { thing = x; gave = t })
   judged_here takes old x t new h lowest decisions heard asked =
       let here : IsVerdict (level old.driver) old.me old.peers old.lowest (record { decisions = old.decisions; heard = fresh_in old.journal; asked = (stood_by takes).asked }) x t.verdict =
       same_verdict (level old.driver) old.me old.peers old.lowest (stood_at old) (stood_by takes).asked asked x t.verdict (judged_at old x t new h) in (
         old.lowest,
-        subst (λ (ds : List Decision). IsLowest ds old.lowest) decisions lowest,
+        subst (λ (ds : List Decision). IsLowest old.first ds old.lowest) decisions lowest,
         subst (λ (hs : List Heard). IsVerdict (level old.driver) old.me old.peers old.lowest (record { decisions = (stood_by takes).decisions; heard = hs; asked = (stood_by takes).asked }) x t.verdict) heard
             (subst (λ (ds : List Decision). IsVerdict (level old.driver) old.me old.peers old.lowest (record { decisions = ds; heard = fresh_in old.journal; asked = (stood_by takes).asked }) x t.verdict) decisions here),
       )
@@ -161,6 +161,6 @@ module _ {D : Type 0} (level : D → ℕ → List ℕ → Level) (extracted : D 
   leads_push old mid [] x t new is h = (new, subst (λ (v : LedgerView D). Takes level extracted combined place v x t new) is h, refl)
   leads_push old mid (y ∷ ys) x t new l h = (l.0, l.1, leads_push l.0 mid ys x t new l.2 h)
 
-pub judged_push : (level : ℕ → List ℕ → Level) (me : NodeId) (peers : List NodeId) (earlier takes : List Taking) (t : Taking) → AreJudged level me peers earlier takes → IsJudged level me peers (stood_by (earlier ++ takes)) t → AreJudged level me peers earlier (takes ++ t ∷ [])
-judged_push level me peers earlier [] t are is = (subst (λ (ts : List Taking). IsJudged level me peers (stood_by ts) t) (append-nil earlier) is, tt)
-judged_push level me peers earlier (y ∷ ys) t are is = (are.0, judged_push level me peers (earlier ++ y ∷ []) ys t are.1 (subst (λ (ts : List Taking). IsJudged level me peers (stood_by ts) t) (sym (append_assoc earlier (y ∷ []) ys)) is))
+pub judged_push : (first : ℕ) (level : ℕ → List ℕ → Level) (me : NodeId) (peers : List NodeId) (earlier takes : List Taking) (t : Taking) → AreJudged first level me peers earlier takes → IsJudged first level me peers (stood_by (earlier ++ takes)) t → AreJudged first level me peers earlier (takes ++ t ∷ [])
+judged_push first level me peers earlier [] t are is = (subst (λ (ts : List Taking). IsJudged first level me peers (stood_by ts) t) (append-nil earlier) is, tt)
+judged_push first level me peers earlier (y ∷ ys) t are is = (are.0, judged_push first level me peers (earlier ++ y ∷ []) ys t are.1 (subst (λ (ts : List Taking). IsJudged first level me peers (stood_by ts) t) (sym (append_assoc earlier (y ∷ []) ys)) is))

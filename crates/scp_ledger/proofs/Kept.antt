@@ -127,6 +127,7 @@ pub record Adds {D : Type 0} (old new : LedgerView D) (fates : List Fate) (more 
   pub me : new.me ≡ old.me
   pub local : new.local ≡ old.local
   pub peers : new.peers ≡ old.peers
+  pub first : new.first ≡ old.first
   pub journal : new.journal ≡ old.journal ++ fates
   pub decisions : new.decisions ≡ old.decisions ++ option_to_list more
   pub asked : (a : Asking) → is_asked old.asked a ≡ true → is_asked new.asked a ≡ true
@@ -138,18 +139,18 @@ one_more ds None h new = subst OnePerSlot (sym (append-nil ds)) h
 one_more ds (Some d) h new =
     all_pairs_push (λ (x y : Decision). x.slot.0 ≢ y.slot.0) ds d h (λ k x lt same. let t : is_at d.slot.0 (get_or ds k x) ≡ false = All-get_or (λ y. is_at d.slot.0 y ≡ false) ds k x lt (none_at d.slot.0 ds new) in let s : is_at d.slot.0 (get_or ds k x) ≡ true = eq-eqb (get_or ds k x).slot.0 d.slot.0 same in cc)
 
-AreInWindow-push : (earlier ds : List Decision) (d : Decision) → AreInWindow earlier ds → IsNext (earlier ++ ds) d → AreInWindow earlier (ds ++ d ∷ [])
-AreInWindow-push earlier [] d h n = (subst (λ (xs : List Decision). IsNext xs d) (append-nil earlier) n, tt)
-AreInWindow-push earlier (e ∷ es) d h n =
-    (h.0, AreInWindow-push (earlier ++ e ∷ []) es d h.1 (subst (λ (xs : List Decision). IsNext xs d) (sym (append_assoc earlier (e ∷ []) es)) n))
+AreInWindow-push : (first : ℕ) (earlier ds : List Decision) (d : Decision) → AreInWindow first earlier ds → IsNext first (earlier ++ ds) d → AreInWindow first earlier (ds ++ d ∷ [])
+AreInWindow-push first earlier [] d h n = (subst (λ (xs : List Decision). IsNext first xs d) (append-nil earlier) n, tt)
+AreInWindow-push first earlier (e ∷ es) d h n =
+    (h.0, AreInWindow-push first (earlier ++ e ∷ []) es d h.1 (subst (λ (xs : List Decision). IsNext first xs d) (sym (append_assoc earlier (e ∷ []) es)) n))
 
-placed_more : (ds : List Decision) (more : Option Decision) → AreInWindow [] ds → IfSome more (IsNext ds) → AreInWindow [] (ds ++ option_to_list more)
-placed_more ds None h n = subst (AreInWindow []) (sym (append-nil ds)) h
-placed_more ds (Some d) h n = AreInWindow-push [] ds d h n
+placed_more : (first : ℕ) (ds : List Decision) (more : Option Decision) → AreInWindow first [] ds → IfSome more (IsNext first ds) → AreInWindow first [] (ds ++ option_to_list more)
+placed_more first ds None h n = subst (AreInWindow first []) (sym (append-nil ds)) h
+placed_more first ds (Some d) h n = AreInWindow-push first [] ds d h n
 
 -- a decision of an open slot is the next
-pub next_open : (ds : List Decision) (lowest : ℕ) (d : Decision) → IsLowest ds lowest → IsOpen lowest ds d.slot.0 → IsNext ds d
-next_open ds lowest d low is = record {
+pub next_open : (first : ℕ) (ds : List Decision) (lowest : ℕ) (d : Decision) → IsLowest first ds lowest → IsOpen lowest ds d.slot.0 → IsNext first ds d
+next_open first ds lowest d low is = record {
   undecided = is.undecided;
   lowest = lowest;
   is_lowest = low;
@@ -161,14 +162,14 @@ all_some : {X : Type 0} (P : X → Type 0) (xs : List X) (o : Option X) → All 
 all_some P xs None h p = subst (All P) (sym (append-nil xs)) h
 all_some P xs (Some x) h p = All-push P xs x h p
 
-undecided_of : (ds : List Decision) (more : Option Decision) → IfSome more (IsNext ds) → IfSome more (λ d. is_decided d.slot.0 ds ≡ false)
-undecided_of ds None n = tt
-undecided_of ds (Some d) n = n.undecided
+undecided_of : (first : ℕ) (ds : List Decision) (more : Option Decision) → IfSome more (IsNext first ds) → IfSome more (λ d. is_decided d.slot.0 ds ≡ false)
+undecided_of first ds None n = tt
+undecided_of first ds (Some d) n = n.undecided
 
 -- a ledger keeps what holds of it: the last fresh statements of decided slots stay, and one more decision has what it rests on
 pub IsLedger-grown : {D : Type 0} (old new : LedgerView D) (fates : List Fate) (more : Option Decision) → IsLedger old → Adds old new fates more
     → ((slot : ℕ) → is_decided slot old.decisions ≡ true → (kind : StatementKind) (v : NodeId) → newest slot kind v new.journal ≡ newest slot kind v old.journal)
-    → IfSome more (IsNext old.decisions) → IfSome more (λ d. IsFounded old.me old.local (link_of old.peers) new.asked new.journal d)
+    → IfSome more (IsNext old.first old.decisions) → IfSome more (λ d. IsFounded old.me old.local (link_of old.peers) new.asked new.journal d)
     → All (HasItsDecision new.decisions) fates → IsLedger new
 IsLedger-grown old new fates more h adds kept next ground named =
     let links = link_of old.peers in
@@ -184,8 +185,8 @@ IsLedger-grown old new fates more h adds kept next ground named =
     old.journal h.named
     in
     record {
-      one = rw adds.decisions (one_more old.decisions more h.one (undecided_of old.decisions more next));
-      placed = rw adds.decisions (placed_more old.decisions more h.placed next);
+      one = rw adds.decisions (one_more old.decisions more h.one (undecided_of old.first old.decisions more next));
+      placed = rw (adds.first, adds.decisions) (placed_more old.first old.decisions more h.placed next);
       founded = rw (adds.decisions, adds.me, adds.local, adds.peers) (all_some (λ d. IsFounded old.me old.local links new.asked new.journal d) old.decisions more founded ground);
       named = subst (All (HasItsDecision new.decisions)) (sym adds.journal) (All-append (HasItsDecision new.decisions) old.journal fates stays named);
       sets = subst (All HasItsSet) (sym adds.journal) (All-append HasItsSet old.journal fates h.sets adds.sets);

@@ -1,6 +1,6 @@
 -- What came of an envelope, and of a record.
 use Rattle.std.proofs.Common.{◌≡◌, ℕ, Bool, true, false, List, refl, sym, ◌∙◌, ap, subst, inl, inr, Result, Ok, Err}
-use Rattle.std.proofs.Common.{cond, ◌++◌}
+use Rattle.std.proofs.Common.{cond, ◌+◌, ◌++◌}
 use Rattle.std.specs.Prelude.{Option, Some, None, IfOk, OnOk, option_map, option_to_list}
 use Rattle.scp_types.specs.declared.names.ConnId.{ConnId}
 use Rattle.scp_types.specs.declared.names.Seq.{Seq}
@@ -70,8 +70,8 @@ some_is : (a b : Verdict) → Some a ≡ Some b → a ≡ b
 some_is a b e = cc
 
 -- the same but for what grows
-same_else : {D : Type 0} (v w : LedgerView D) → w.me ≡ v.me → w.local ≡ v.local → w.driver ≡ v.driver → w.peers ≡ v.peers → w.failed ≡ v.failed → w.asked ≡ v.asked → w ≡ record v { journal = w.journal; decisions = w.decisions; machines = w.machines; lowest = w.lowest }
-same_else v w a b c d e f = rw (← a, ← b, ← c, ← d, ← e, ← f) refl
+same_else : {D : Type 0} (v w : LedgerView D) → w.me ≡ v.me → w.local ≡ v.local → w.driver ≡ v.driver → w.peers ≡ v.peers → w.first ≡ v.first → w.failed ≡ v.failed → w.asked ≡ v.asked → w ≡ record v { journal = w.journal; decisions = w.decisions; machines = w.machines; lowest = w.lowest }
+same_else v w a b c d e f g = rw (← a, ← b, ← c, ← d, ← e, ← f, ← g) refl
 
 module _ {D : Type 0} (level : D → ℕ → List ℕ → Level) (extracted : D → ℕ → List ℕ → Option (List ℕ)) (combined : D → ℕ → List (List ℕ) → List ℕ) (place : D → ℕ → ℕ → ℕ → ℕ) where
   made_for : (s : State D) (at : Slot) (o : Option (SlotMachine D)) (m : SlotMachine D) → IsTakenOut level place s at o m → IsMachineFor (state_view false s) at o m
@@ -110,6 +110,7 @@ module _ {D : Type 0} (level : D → ℕ → List ℕ → Level) (extracted : D 
           (ap (λ x. x.value) rest.local ∙ ap (λ (s : State D). s.local.value) same)
           (rest.driver ∙ ap (λ (s : State D). s.driver) same)
           (ap (λ x. x.items) rest.peers ∙ ap (λ (s : State D). s.peers.items) same)
+          (ap (λ (n : ℕ). n + 1) (rest.before ∙ ap (λ (s : State D). s.before) same))
           refl
           (ap (λ x. x.keys) rest.asked ∙ ap (λ (s : State D). s.asked.keys) same);
     },

@@ -112,9 +112,9 @@ at_slot : (at : Slot) (o : Option Certified) → IfSome (decision_of at o) (λ d
 at_slot at None = tt
 at_slot at (Some c) = refl
 
-next_of : (ds : List Decision) (lowest : ℕ) (at : Slot) (o : Option Certified) → IsLowest ds lowest → IsOpen lowest ds at.0 → IfSome (decision_of at o) (IsNext ds)
-next_of ds lowest at None low is = tt
-next_of ds lowest at (Some c) low is = next_open ds lowest (record { slot = at; value = c.value; origin = Machine c.n (keys c.quorum) c.own }) low is
+next_of : (first : ℕ) (ds : List Decision) (lowest : ℕ) (at : Slot) (o : Option Certified) → IsLowest first ds lowest → IsOpen lowest ds at.0 → IfSome (decision_of at o) (IsNext first ds)
+next_of first ds lowest at None low is = tt
+next_of first ds lowest at (Some c) low is = next_open first ds lowest (record { slot = at; value = c.value; origin = Machine c.n (keys c.quorum) c.own }) low is
 
 pub at_is : (a b : ℕ) → tree.is_at (nat_cmp a) b ≡ true → a ≡ b
 at_is a b e = eqb-true a b (sym (unsigned_tied a b) ∙ e)
@@ -122,7 +122,7 @@ at_is a b e = eqb-true a b (sym (unsigned_tied a b) ∙ e)
 -- an input of the machine of an open slot, as the ledger's lemmas take it
 pub record Runs {D : Type 0} (level : D → ℕ → List ℕ → Level) (place : D → ℕ → ℕ → ℕ → ℕ) (old : LedgerView D) (at : Slot) (given : SlotInput) (out : SlotOutput) (m n : SlotMachine D) : Type 0 where
   pub is_open : IsOpen old.lowest old.decisions at.0
-  pub low : IsLowest old.decisions old.lowest
+  pub low : IsLowest old.first old.decisions old.lowest
   pub machine : IsMachineOf level place old.me old.local old.driver old.journal old.decisions at.0 m
   pub step : Stepped given (slot_view m) out (slot_view n)
   pub decides : slot.Decides (slot_view m) out (slot_view n)
@@ -146,7 +146,7 @@ module _ {D : Type 0} (level : D → ℕ → List ℕ → Level) (place : D → 
       let hs : Hears old.journal new.journal at.0 (brings given verdict) = subst (λ (fs : List Fate). Hears old.journal fs at.0 (brings given verdict)) (sym adds.journal) (hears_entry old.journal at.0 given entering verdict enters of_slot) in
       IsLedger-grown old new (entries_of entering verdict) (decision_of at out.decided) h adds
       (λ s in' kind v. hears_elsewhere old.journal new.journal at.0 (brings given verdict) hs s kind v (other_slot at.0 s old.decisions r.is_open.undecided in'))
-      (next_of old.decisions old.lowest at out.decided r.low r.is_open)
+      (next_of old.first old.decisions old.lowest at out.decided r.low r.is_open)
       (ground old new at given out m n r hs out.decided refl)
       (entries_decide_nothing new.decisions entering verdict)
 

@@ -80,7 +80,7 @@ module _ {D : Type 0} (level : D → ℕ → List ℕ → Level) (extracted : D 
 
   pub sound_ran : (old mid new : State D) (at : Slot) (given : SlotInput) (out : SlotOutput) (entering : Option Entering) → IsSound level place old → IsOpen old.window.lowest old.decisions.items at.0 → Ran level extracted combined place old at given out mid
       → mid ≡ record old { machines = mid.machines } → Enters given entering → slot.IsOfSlot at.0 given → length old.journal.items + length (option_to_list entering) ≤ 1000000
-      → new.journal.items ≡ mid.journal.items ++ entries_of entering (verdict_from out.verdict) → new.decisions.items ≡ mid.decisions.items ++ option_to_list (decision_of at out.decided) → IsWindow new.decisions.items new.window → KeepsRest mid new → IsSound level place new
+      → new.journal.items ≡ mid.journal.items ++ entries_of entering (verdict_from out.verdict) → new.decisions.items ≡ mid.decisions.items ++ option_to_list (decision_of at out.decided) → IsWindow (new.before + 1) new.decisions.items new.window → KeepsRest mid new → IsSound level place new
   sound_ran old mid new at given out entering h is r same enters of_slot room journal decisions window rest =
       let v = state_view false old in
       let w = state_view false new in
@@ -92,6 +92,7 @@ module _ {D : Type 0} (level : D → ℕ → List ℕ → Level) (extracted : D 
         me = rest.me ∙ ap (λ (s : State D). s.me) same;
         local = ap (λ x. x.value) rest.local ∙ ap (λ (s : State D). s.local.value) same;
         peers = ap (λ x. x.items) rest.peers ∙ ap (λ (s : State D). s.peers.items) same;
+        first = ap (λ (n : ℕ). n + 1) (rest.before ∙ ap (λ (s : State D). s.before) same);
         journal = journal ∙ ap (λ (s : State D). s.journal.items ++ fates) same;
         decisions = decisions ∙ ap (λ (s : State D). s.decisions.items ++ option_to_list more) same;
         asked = λ a e. ap (λ (keys : List Asking). is_asked keys a) (ap (λ x. x.keys) rest.asked ∙ ap (λ (s : State D). s.asked.keys) same) ∙ e;
@@ -116,6 +117,7 @@ module _ {D : Type 0} (level : D → ℕ → List ℕ → Level) (extracted : D 
         me = rest.me;
         local = ap (λ x. x.value) rest.local;
         peers = ap (λ x. x.items) rest.peers;
+        first = ap (λ (n : ℕ). n + 1) rest.before;
         journal = journal;
         decisions = decisions ∙ sym (append-nil old.decisions.items);
         asked = λ a e. ap (λ x. is_asked x.keys a) rest.asked ∙ e;
@@ -124,7 +126,7 @@ module _ {D : Type 0} (level : D → ℕ → List ℕ → Level) (extracted : D 
       } in
       record {
         ledger = IsLedger-grown v w (fate ∷ []) None h.ledger adds (λ at yes' kind x. hs at kind x) tt tt (All-cons (HasItsDecision new.decisions.items) fate [] (subst (λ (o : Option Decision). IfSome o (Contains new.decisions.items)) (sym quiet.decides_nothing) tt) (All-nil (HasItsDecision new.decisions.items)));
-        window = rw (decisions, window) h.window;
+        window = rw (rest.before, decisions, window) h.window;
         machines = λ s. rw (rest.me, rest.local, rest.driver, decisions, rest.machines) (fits_passed level place old.me old.local.value old.driver old.journal.items new.journal.items old.decisions.items s (machine_at old.machines.entries s) hs (h.machines s));
         few_peers = rw adds.peers h.few_peers;
       }
@@ -139,6 +141,7 @@ module _ {D : Type 0} (level : D → ℕ → List ℕ → Level) (extracted : D 
         me = refl;
         local = refl;
         peers = refl;
+        first = refl;
         journal = sym (append-nil old.journal.items);
         decisions = sym (append-nil old.decisions.items);
         asked = λ b e. u.0 b ∙ ap (λ (x : Bool). cond (tree.is_at (asking_cmp a) b) true x) e ∙ both (tree.is_at (asking_cmp a) b);
@@ -166,7 +169,7 @@ module _ {D : Type 0} (level : D → ℕ → List ℕ → Level) (extracted : D 
   pub sound_named : (old mid new : State D) (conn : ConnId) (seq : Seq) (at : Slot) (value : List ℕ) (set : Option SharedSet) → IsSound level place old → IsOpen old.window.lowest old.decisions.items at.0 → is_asked old.asked.keys (record { link = link_of old.peers.items conn; slot = at }) ≡ true → length old.journal.items < 1000000
       → HasItsSet (Taken conn seq (Record at value) set Decided)
       → ((s : ℕ) → machine_at mid.machines.entries s ≡ cond (tree.is_at (nat_cmp at.0) s) None (machine_at old.machines.entries s)) → mid ≡ record old { machines = mid.machines }
-      → new.journal.items ≡ mid.journal.items ++ Taken conn seq (Record at value) set Decided ∷ [] → new.decisions.items ≡ mid.decisions.items ++ named_by conn seq at value ∷ [] → IsWindow new.decisions.items new.window → KeepsRest mid new → IsSound level place new
+      → new.journal.items ≡ mid.journal.items ++ Taken conn seq (Record at value) set Decided ∷ [] → new.decisions.items ≡ mid.decisions.items ++ named_by conn seq at value ∷ [] → IsWindow (new.before + 1) new.decisions.items new.window → KeepsRest mid new → IsSound level place new
   sound_named old mid new conn seq at value set h is asked room its_set machines same journal decisions window rest =
       let v = state_view false old in
       let w = state_view false new in
@@ -180,6 +183,7 @@ module _ {D : Type 0} (level : D → ℕ → List ℕ → Level) (extracted : D 
         me = rest.me ∙ ap (λ (s : State D). s.me) same;
         local = ap (λ x. x.value) rest.local ∙ ap (λ (s : State D). s.local.value) same;
         peers = ap (λ x. x.items) rest.peers ∙ ap (λ (s : State D). s.peers.items) same;
+        first = ap (λ (n : ℕ). n + 1) (rest.before ∙ ap (λ (s : State D). s.before) same);
         journal = grown;
         decisions = more;
         asked = λ a e. ap (λ (keys : List Asking). is_asked keys a) asked_same ∙ e;
@@ -191,7 +195,7 @@ module _ {D : Type 0} (level : D → ℕ → List ℕ → Level) (extracted : D 
       let has_d : Contains new.decisions.items d = subst (λ (ds : List Decision). Contains ds d) (sym more) (Contains-push old.decisions.items d) in
       let its_ask : is_asked new.asked.keys (record { link = link_of old.peers.items conn; slot = at }) ≡ true = ap (λ (keys : List Asking). is_asked keys (record { link = link_of old.peers.items conn; slot = at })) asked_same ∙ asked in
       record {
-        ledger = IsLedger-grown v w (fate ∷ []) (Some d) h.ledger adds (λ s yes' kind x. hs s kind x) (next_open old.decisions.items old.window.lowest d h.window.lowest is) ((set, has), its_ask) (All-cons (HasItsDecision new.decisions.items) fate [] has_d (All-nil (HasItsDecision new.decisions.items)));
+        ledger = IsLedger-grown v w (fate ∷ []) (Some d) h.ledger adds (λ s yes' kind x. hs s kind x) (next_open (old.before + 1) old.decisions.items old.window.lowest d h.window.lowest is) ((set, has), its_ask) (All-cons (HasItsDecision new.decisions.items) fate [] has_d (All-nil (HasItsDecision new.decisions.items)));
         window = window;
         machines = λ s. subst (λ (o : Option (SlotMachine D)). FitsMachine level place new.me new.local.value new.driver new.journal.items new.decisions.items s o) (sym (ap (λ x. machine_at x.entries s) rest.machines ∙ machines s)) (rw (adds.me, adds.local, driver, more) (fits_named old new.journal.items at d refl hs h.machines s (tree.is_at (nat_cmp at.0) s) refl));
         few_peers = rw adds.peers h.few_peers;
@@ -199,7 +203,7 @@ module _ {D : Type 0} (level : D → ℕ → List ℕ → Level) (extracted : D 
 
   -- ---- at the start
 
-  pub sound_new : (s : State D) → s.journal.items ≡ [] → s.decisions.items ≡ [] → s.machines.entries ≡ [] → IsWindow [] s.window → length s.peers.items ≤ 255 → IsSound level place s
+  pub sound_new : (s : State D) → s.journal.items ≡ [] → s.decisions.items ≡ [] → s.machines.entries ≡ [] → IsWindow (s.before + 1) [] s.window → length s.peers.items ≤ 255 → IsSound level place s
   sound_new s journal decisions machines window few = record {
     ledger = record {
       one = rw decisions (λ i j d lt within. absurd (omega (arith, lt, within)));

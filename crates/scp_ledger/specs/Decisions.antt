@@ -61,21 +61,22 @@ RestsOn me local link_of asked journal d (Named conn seq) = IsNamed link_of aske
 abbrev pub IsFounded : NodeId → QuorumTree → (ConnId → ℕ) → List Asking → List Fate → Decision → Type 0
 IsFounded me local link_of asked journal d = RestsOn me local link_of asked journal d d.origin
 
--- the lowest slot from 1 on that has no decision
-pub record IsLowest (decisions : List Decision) (lowest : ℕ) : Type 0 where
-  pub from_one : 1 ≤ lowest
-  pub decided : (slot : ℕ) → 1 ≤ slot → slot < lowest → is_decided slot decisions ≡ true
+-- the lowest slot from a first one on that has no decision
+pub record IsLowest (first : ℕ) (decisions : List Decision) (lowest : ℕ) : Type 0 where
+  pub from_first : first ≤ lowest
+  pub decided : (slot : ℕ) → first ≤ slot → slot < lowest → is_decided slot decisions ≡ true
   pub undecided : is_decided lowest decisions ≡ false
 
--- a decision after these is for a slot that has none yet, one of the 16 from the lowest such slot on (this project's profile)
-pub record IsNext (earlier : List Decision) (d : Decision) : Type 0 where
+-- A decision after these, of slots from a first one on, is for a slot that has none yet, one of the 16 from the lowest such slot on
+-- (this project's profile).
+pub record IsNext (first : ℕ) (earlier : List Decision) (d : Decision) : Type 0 where
   pub undecided : is_decided d.slot.0 earlier ≡ false
   pub lowest : ℕ
-  pub is_lowest : IsLowest earlier lowest
+  pub is_lowest : IsLowest first earlier lowest
   pub from : lowest ≤ d.slot.0
   pub near : d.slot.0 < lowest + 16
 
 -- each decision is so after those before it
-abbrev pub AreInWindow : List Decision → List Decision → Type 0
-AreInWindow earlier [] = Unit {0}
-AreInWindow earlier (d ∷ ds) = IsNext earlier d × AreInWindow (earlier ++ d ∷ []) ds
+abbrev pub AreInWindow : ℕ → List Decision → List Decision → Type 0
+AreInWindow first earlier [] = Unit {0}
+AreInWindow first earlier (d ∷ ds) = IsNext first earlier d × AreInWindow first (earlier ++ d ∷ []) ds

@@ -76,10 +76,11 @@ abbrev pub IsToAll : Outgoing → Type 0
 IsToAll (ToAll envelope) = Unit {0}
 IsToAll (To link message) = ⊥
 
--- Taking a thing doesn't make a ledger fail. Its journal and its decisions grow at their ends, the decisions by what goes on. A thing that
--- gives own statements asks no link for a slot.
+-- Taking a thing doesn't make a ledger fail. Its first slot stays. Its journal and its decisions grow at their ends, the decisions by what
+-- goes on. A thing that gives own statements asks no link for a slot.
 pub record Grows {D : Type 0} (old : LedgerView D) (t : Took) (new : LedgerView D) : Type 0 where
   pub runs : new.failed ≡ old.failed
+  pub first : new.first ≡ old.first
   pub fates : List Fate
   pub journal : new.journal ≡ old.journal ++ fates
   pub decisions : new.decisions ≡ old.decisions ++ decisions_on (option_to_list t.onward)
@@ -91,9 +92,9 @@ TakesGrow {D} level extracted combined place = (old : LedgerView D) (x : Ready) 
 
 -- `Journals` holds of a ledger that took nothing, and it holds with one thing more
 pub record JournalsPass {D : Type 0} (level : D → ℕ → List ℕ → Level) (extracted : D → ℕ → List ℕ → Option (List ℕ)) (combined : D → ℕ → List (List ℕ) → List ℕ) (place : D → ℕ → ℕ → ℕ → ℕ) : Type 0 where
-  pub begins : (me : NodeId) (local : QuorumTree) (peers : List NodeId) (v : LedgerView D) → v ≡ nothing_taken me local v.driver peers → IsLedger v → LedgerRuns level place v → Journals level extracted combined place me local peers [] [] v
+  pub begins : (me : NodeId) (local : QuorumTree) (peers : List NodeId) (v : LedgerView D) → v ≡ nothing_taken me local v.driver peers v.first → IsLedger v → LedgerRuns level place v → Journals level extracted combined place me local peers [] [] v
   pub passes : (me : NodeId) (local : QuorumTree) (peers : List NodeId) (old : LedgerView D) (x : Ready) (t : Took) (new : LedgerView D) → Takes level extracted combined place old x t new → IsLedger new → (new.failed ≡ false → LedgerRuns level place new) → Passes (Journals level extracted combined place me local peers) (x ∷ []) (option_to_list t.onward) old new
 
 -- what it gives next may be sent after all that it gave before
 abbrev pub LedgerKeepsWindow : {D : Type 0} → (D → ℕ → List ℕ → Level) → (D → ℕ → List ℕ → Option (List ℕ)) → (D → ℕ → List (List ℕ) → List ℕ) → (D → ℕ → ℕ → ℕ → ℕ) → Type 0
-LedgerKeepsWindow {D} level extracted combined place = (me : NodeId) (local : QuorumTree) (peers : List NodeId) (took : List Ready) (onwards : List Onward) (old : LedgerView D) (x : Ready) (t : Took) (new : LedgerView D) → Takes level extracted combined place old x t new → IsLedger new → Journals level extracted combined place me local peers took onwards old → KeepsWindow (onwards ++ option_to_list t.onward) × IfSome t.onward (MaySend onwards)
+LedgerKeepsWindow {D} level extracted combined place = (me : NodeId) (local : QuorumTree) (peers : List NodeId) (took : List Ready) (onwards : List Onward) (old : LedgerView D) (x : Ready) (t : Took) (new : LedgerView D) → Takes level extracted combined place old x t new → IsLedger new → Journals level extracted combined place me local peers took onwards old → KeepsWindow new.first (onwards ++ option_to_list t.onward) × IfSome t.onward (MaySend new.first onwards)

@@ -21,7 +21,7 @@ use Rattle.scp_ledger.specs.Verdicts.{HasItsSet, link_of}
 pub record IsLedger {D : Type 0} (v : LedgerView D) : Type 0 where
   -- at most one decision per slot, each in the window where it was made
   pub one : OnePerSlot v.decisions
-  pub placed : AreInWindow [] v.decisions
+  pub placed : AreInWindow v.first [] v.decisions
   -- each decision has its certificate over the journal, or the record that named it
   pub founded : All (IsFounded v.me v.local (link_of v.peers) v.asked v.journal) v.decisions
   -- each entry with the verdict Decided has its decision
@@ -62,5 +62,5 @@ HasMachines level place v = (at : ℕ) → FitsMachine level place v.me v.local 
 
 -- what else holds of a ledger that hasn't failed
 pub record IsRunning {D : Type 0} (level : D → ℕ → List ℕ → Level) (place : D → ℕ → ℕ → ℕ → ℕ) (v : LedgerView D) : Type 0 where
-  pub lowest : IsLowest v.decisions v.lowest
+  pub lowest : IsLowest v.first v.decisions v.lowest
   pub machines : HasMachines level place v

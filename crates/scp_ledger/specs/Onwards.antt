@@ -1,5 +1,5 @@
 -- What goes on to the applier, and the window of its decisions.
-use Rattle.std.specs.Prelude.{List, [], ◌∷◌, ◌++◌, flat_map}
+use Rattle.std.specs.Prelude.{ℕ, List, [], ◌∷◌, ◌++◌, flat_map}
 use Rattle.scp_ledger.specs.declared.journal.Decision.{Decision}
 use Rattle.scp_ledger.specs.declared.took.Onward.{Onward}
 use Rattle.scp_ledger.specs.declared.took.Onward.TheVariants.{Decided, Asked}
@@ -26,17 +26,17 @@ requests_on onwards = flat_map request_on onwards
 -- ---- the window
 
 -- After these the thing may be sent: a request always; a decision if its slot is one of the 16 from the
--- lowest slot without a decision among them, and has none itself.
-abbrev pub MaySend : List Onward → Onward → Type 0
-MaySend earlier (Decided d) = IsNext (decisions_on earlier) d
-MaySend earlier (Asked link slot) = Unit {0}
+-- lowest slot, from the first one on, without a decision among them, and has none itself.
+abbrev pub MaySend : ℕ → List Onward → Onward → Type 0
+MaySend first earlier (Decided d) = IsNext first (decisions_on earlier) d
+MaySend first earlier (Asked link slot) = Unit {0}
 
 -- each thing might be sent after those before it
-abbrev pub KeepsWindow : List Onward → Type 0
-KeepsWindow sent = AreInWindow [] (decisions_on sent)
+abbrev pub KeepsWindow : ℕ → List Onward → Type 0
+KeepsWindow first sent = AreInWindow first [] (decisions_on sent)
 
 -- The window is kept by each beginning of a list that keeps it, and with one thing more exactly where that may be sent.
 pub record WindowIsKept : Type 0 where
-  pub begins : (xs ys : List Onward) → KeepsWindow (xs ++ ys) → KeepsWindow xs
-  pub more : (xs : List Onward) (x : Onward) → KeepsWindow xs → MaySend xs x → KeepsWindow (xs ++ x ∷ [])
-  pub last : (xs : List Onward) (x : Onward) → KeepsWindow (xs ++ x ∷ []) → MaySend xs x
+  pub begins : (first : ℕ) (xs ys : List Onward) → KeepsWindow first (xs ++ ys) → KeepsWindow first xs
+  pub more : (first : ℕ) (xs : List Onward) (x : Onward) → KeepsWindow first xs → MaySend first xs x → KeepsWindow first (xs ++ x ∷ [])
+  pub last : (first : ℕ) (xs : List Onward) (x : Onward) → KeepsWindow first (xs ++ x ∷ []) → MaySend first xs x

@@ -52,9 +52,9 @@ onwards_of takes = flat_map onward_of takes
 
 -- ---- one after another
 
--- a ledger of this node, set, driver and peers that took nothing
-abbrev pub nothing_taken : {D : Type 0} → NodeId → QuorumTree → D → List NodeId → LedgerView D
-nothing_taken me local driver peers = record { me = me; local = local; driver = driver; peers = peers; failed = false; journal = []; decisions = []; lowest = 1; asked = []; machines = [] }
+-- a ledger of this node, set, driver, peers and first slot that took nothing
+abbrev pub nothing_taken : {D : Type 0} → NodeId → QuorumTree → D → List NodeId → ℕ → LedgerView D
+nothing_taken me local driver peers first = record { me = me; local = local; driver = driver; peers = peers; first = first; failed = false; journal = []; decisions = []; lowest = first; asked = []; machines = [] }
 
 -- each thing was taken by the ledger that the one before it left
 abbrev pub Leads : {D : Type 0} → (D → ℕ → List ℕ → Level) → (D → ℕ → List ℕ → Option (List ℕ)) → (D → ℕ → List (List ℕ) → List ℕ) → (D → ℕ → ℕ → ℕ → ℕ) → LedgerView D → List Taking → LedgerView D → Type 0
@@ -155,14 +155,14 @@ IsVerdict level me peers lowest stood (ready.Dropped conn seq cause) said = said
 IsVerdict level me peers lowest stood (ready.Closed conn cause) said = said ≡ None
 IsVerdict level me peers lowest stood (ready.Local command) said = IsCommandVerdict lowest stood command said
 
--- the verdict is that by the lowest slot that had no decision then
-abbrev pub IsJudged : (ℕ → List ℕ → Level) → NodeId → List NodeId → Stood → Taking → Type 0
-IsJudged level me peers stood t = (lowest : ℕ) × IsLowest stood.decisions lowest × IsVerdict level me peers lowest stood t.thing t.gave.verdict
+-- the verdict is that by the lowest slot, from the first on, that had no decision then
+abbrev pub IsJudged : ℕ → (ℕ → List ℕ → Level) → NodeId → List NodeId → Stood → Taking → Type 0
+IsJudged first level me peers stood t = (lowest : ℕ) × IsLowest first stood.decisions lowest × IsVerdict level me peers lowest stood t.thing t.gave.verdict
 
 -- each is judged by what was there before it
-abbrev pub AreJudged : (ℕ → List ℕ → Level) → NodeId → List NodeId → List Taking → List Taking → Type 0
-AreJudged level me peers earlier [] = Unit {0}
-AreJudged level me peers earlier (t ∷ takes) = IsJudged level me peers (stood_by earlier) t × AreJudged level me peers (earlier ++ t ∷ []) takes
+abbrev pub AreJudged : ℕ → (ℕ → List ℕ → Level) → NodeId → List NodeId → List Taking → List Taking → Type 0
+AreJudged first level me peers earlier [] = Unit {0}
+AreJudged first level me peers earlier (t ∷ takes) = IsJudged first level me peers (stood_by earlier) t × AreJudged first level me peers (earlier ++ t ∷ []) takes
 
 -- ---- the journal's verdicts
 
@@ -186,9 +186,9 @@ verdict_by t = verdict_on t.thing t.gave.verdict
 -- A ledger of this node, set and peers took these, one after another, and each gave what is noted with it.
 pub record IsRun {D : Type 0} (level : D → ℕ → List ℕ → Level) (extracted : D → ℕ → List ℕ → Option (List ℕ)) (combined : D → ℕ → List (List ℕ) → List ℕ) (place : D → ℕ → ℕ → ℕ → ℕ) (me : NodeId) (local : QuorumTree) (peers : List NodeId) (takes : List Taking) (v : LedgerView D) : Type 0 where
   -- the first was taken by a ledger that took nothing, each other one by the ledger that the one before it left
-  pub leads : Leads level extracted combined place (nothing_taken me local v.driver peers) takes v
+  pub leads : Leads level extracted combined place (nothing_taken me local v.driver peers v.first) takes v
   -- each verdict is the first that fits by what was there before it
-  pub judged : AreJudged (level v.driver) me peers [] takes
+  pub judged : AreJudged v.first (level v.driver) me peers [] takes
   -- the journal's entries have the verdicts on messages, in order
   pub verdicts : flat_map verdict_in v.journal ≡ flat_map verdict_by takes
   -- the decisions, the fresh statements in the journal and the asked slots are those of what was taken

@@ -18,10 +18,11 @@ pub record LedgerView (D : Type 0) : Type 0 where
   pub local : QuorumTree  -- this node's quorum set
   pub driver : D
   pub peers : List NodeId  -- the sender of each link
+  pub first : ℕ  -- the slot that it began with
   pub failed : Bool
   pub journal : List Fate
   pub decisions : List Decision
-  pub lowest : ℕ  -- the lowest slot from 1 on without a decision, where the ledger hasn't failed
+  pub lowest : ℕ  -- the lowest slot from the first on without a decision, where the ledger hasn't failed
   pub asked : List Asking  -- the links that were asked for a slot, with the slot, the newest slots first
   pub machines : List (ℕ × SlotMachine D)  -- the machines of undecided slots, ascending by slot
 

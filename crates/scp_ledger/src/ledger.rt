@@ -1,5 +1,5 @@
 //! A ledger.
-ghost use Rattle.std.specs.Prelude.{◌≡◌, ◌↔◌, ◌≤◌, ◌⊎◌, ◌++◌, [], true, false, length, All, OnOk, OnErr, IfOk, IfErr, IsErrOf, option_copied};
+ghost use Rattle.std.specs.Prelude.{◌≡◌, ◌↔◌, ◌≤◌, ◌⊎◌, ◌+◌, ◌++◌, [], true, false, length, All, OnOk, OnErr, IfOk, IfErr, IsErrOf, option_copied};
 ghost use Rattle.scp_types.specs.declared.names.ConnId.{ConnId};
 ghost use Rattle.scp_pending.specs.Line.{ready_mark};
 ghost use Rattle.scp_ledger.specs.Fitting.{FitsOut};
@@ -50,21 +50,23 @@ impl<D: Driver + Drop + Copy> Model for Ledger<D> {
 
 impl<D: Driver + Drop + Copy> Ledger<D> {
     /// An empty ledger of the node `me`, whose own quorum set is `local`. `peers[l]` is the
-    /// sender of link l; a link's number is a byte. Takes no memory.
+    /// sender of link l; a link's number is a byte. Its first slot is the one after `before`, so 0
+    /// is given for slot 1. Takes no memory.
     pub fn new(
         alloc: Global,
         me: NodeId,
         local: Arc<SaneSet>,
         driver: D,
         peers: Vec<NodeId>,
+        before: u32,
     ) -> Ledger<D>
         requires few { length peers.items ≤ 255 }
-        ensures empty { result ≡ record { me = me; local = local.value; driver = driver; peers = peers.items; failed = false; journal = []; decisions = []; lowest = 1; asked = []; machines = [] } }
+        ensures empty { result ≡ record { me = me; local = local.value; driver = driver; peers = peers.items; first = before + 1; failed = false; journal = []; decisions = []; lowest = before + 1; asked = []; machines = [] } }
         ensures known { IsLedger result }
         ensures running { IsRunning D.says.level D.says.place result }
     {
         Ledger {
-            state: State::new(alloc, me, local, driver, peers),
+            state: State::new(alloc, me, local, driver, peers, before),
             failed: false,
         }
     }
@@ -85,7 +87,14 @@ impl<D: Driver + Drop + Copy> Ledger<D> {
         self.state.decisions.as_slice()
     }
 
-    /// The lowest slot from 1 on that has no decision. It says nothing if the ledger failed.
+    /// The slot that it began with.
+    pub fn first(&self) -> u64
+        ensures { result ≡ self.now.first }
+    {
+        self.state.before as u64 + 1
+    }
+
+    /// The lowest slot from the first one on that has no decision. It says nothing if the ledger failed.
     pub fn lowest(&self) -> u64
         ensures same { result ≡ self.now.lowest }
         ensures running { self.now.failed ≡ false → IsRunning D.says.level D.says.place self.now }
@@ -139,8 +148,10 @@ impl<D: Driver + Drop + Copy> Ledger<D> {
         ensures marks { OnOk result ((c : ConnId) → marks_of c self.new.journal ≡ marks_of c self.old.journal ++ ready_mark c ready) }
         // Failed or not: at most one decision per slot, and each has its certificate over the journal, or the record that named it.
         ensures known { IsLedger self.new }
-        // Unless it failed: the lowest slot is the least without a decision, and each machine's board is that of the journal.
+        // Unless it failed: the lowest slot is the least from the first one on without a decision, and each machine's board is that of the
+        // journal.
         ensures running { self.new.failed ≡ false → IsRunning D.says.level D.says.place self.new }
+        ensures first { self.new.first ≡ self.old.first }
         // When each refusal comes, and what it leaves.
         ensures failed { IsErrOf result Fault.Failed ↔ (self.old.failed ≡ true) }
         ensures same { self.old.failed ≡ true → self.new ≡ self.old }

@@ -47,6 +47,8 @@ pub struct State<D: Driver + Drop + Copy> {
     pub local: Arc<SaneSet>,
     pub driver: D,
     pub peers: Vec<NodeId>,
+    /// The last slot before the first one: 0 where that is slot 1.
+    pub before: u32,
     pub journal: Vec<Fate>,
     pub decisions: Vec<SharedDecision>,
     pub window: Window,
@@ -63,16 +65,17 @@ impl<D: Driver + Drop + Copy> State<D> {
     ghost use Rattle.scp_ledger.specs.inside.State.{state_view, IsSound, IsTakenOut, Ran, KeepsRest, Leaves, IsMade};
     ghost use Rattle.scp_ledger.specs.Ledger.{HasMachines};
 
-    /// The state of a ledger that took nothing.
+    /// The state of a ledger that took nothing; its first slot is the one after `before`.
     pub fn new(
         alloc: Global,
         me: NodeId,
         local: Arc<SaneSet>,
         driver: D,
         peers: Vec<NodeId>,
+        before: u32,
     ) -> State<D>
         requires few { length peers.items ≤ 255 }
-        ensures empty { state_view false result ≡ record { me = me; local = local.value; driver = driver; peers = peers.items; failed = false; journal = []; decisions = []; lowest = 1; asked = []; machines = [] } }
+        ensures empty { state_view false result ≡ record { me = me; local = local.value; driver = driver; peers = peers.items; first = before + 1; failed = false; journal = []; decisions = []; lowest = before + 1; asked = []; machines = [] } }
         ensures sound { IsSound D.says.level D.says.place result }
     {
         State {
@@ -81,9 +84,10 @@ impl<D: Driver + Drop + Copy> State<D> {
             local,
             driver,
             peers,
+            before,
             journal: Vec::new(alloc),
             decisions: Vec::new(alloc),
-            window: Window::new(alloc),
+            window: Window::new(alloc, before as u64 + 1),
             machines: BTreeMap::new(alloc),
             asked: BTreeSet::new(alloc),
         }
@@ -93,7 +97,7 @@ impl<D: Driver + Drop + Copy> State<D> {
 
     /// Why a slot isn't open to envelopes and commands, if it isn't.
     fn shut(&self, slot: Slot) -> Option<Verdict>
-        requires window { IsWindow self.now.decisions.items self.now.window }
+        requires window { IsWindow (self.now.before + 1) self.now.decisions.items self.now.window }
         ensures shut { IfSome result (BehindWindow self.now.window.lowest self.now.decisions.items slot.0 (λ _. ⊥)) }
         ensures not_open { IfSome result (λ _. ¬ (IsOpen self.now.window.lowest self.now.decisions.items slot.0)) }
         ensures is_open { IfNone result (IsOpen self.now.window.lowest self.now.decisions.items slot.0) }
@@ -111,7 +115,7 @@ impl<D: Driver + Drop + Copy> State<D> {
 
     /// Why a slot isn't open to records and asks, if it isn't.
     fn shut_to_records(&self, slot: Slot) -> Option<Verdict>
-        requires window { IsWindow self.now.decisions.items self.now.window }
+        requires window { IsWindow (self.now.before + 1) self.now.decisions.items self.now.window }
         ensures shut { IfSome result (BehindAlready self.now.window.lowest self.now.decisions.items slot.0 (λ _. ⊥)) }
         ensures is_open { IfNone result (IsOpen self.now.window.lowest self.now.decisions.items slot.0) }
     {
@@ -132,7 +136,7 @@ impl<D: Driver + Drop + Copy> State<D> {
 
     /// The verdict on a record of a slot that came over a link.
     fn record_verdict(&self, link: u8, slot: Slot) -> Verdict
-        requires window { IsWindow self.now.decisions.items self.now.window }
+        requires window { IsWindow (self.now.before + 1) self.now.decisions.items self.now.window }
         ensures right { IsRecordVerdict (state_view false self.now) link slot result }
         ensures is_open { result ≡ Verdict.Decided → IsOpen self.now.window.lowest self.now.decisions.items slot.0 }
         ensures not_fresh { ¬ (result ≡ Verdict.Fresh) }
@@ -148,7 +152,7 @@ impl<D: Driver + Drop + Copy> State<D> {
 
     /// The verdict on a command to ask a link for a slot.
     fn ask_verdict(&self, link: u8, slot: Slot) -> Verdict
-        requires window { IsWindow self.now.decisions.items self.now.window }
+        requires window { IsWindow (self.now.before + 1) self.now.decisions.items self.now.window }
         ensures right { IsAskVerdict (state_view false self.now) link slot result }
     {
         if let Some(verdict) = self.shut_to_records(slot) {
@@ -295,7 +299,7 @@ impl<D: Driver + Drop + Copy> State<D> {
     /// Keeps what came of an input to a slot's machine: the decision, if there is one, and the entry, if there is one.
     fn settle(&mut self, slot: Slot, out: SlotOutput, fate: Option<Fate>) -> Result<Took, Fault>
         requires fits { KeepsLimits out }
-        requires window { IsWindow self.old.decisions.items self.old.window }
+        requires window { IsWindow (self.old.before + 1) self.old.decisions.items self.old.window }
         requires is_open { IsOpen self.old.window.lowest self.old.decisions.items slot.0 }
         ensures verdict { IfOk result (λ took. took.verdict ≡ Some (verdict_as out.verdict)) }
         ensures untold { IfOk result (λ took. took.command ≡ None) }
@@ -303,7 +307,7 @@ impl<D: Driver + Drop + Copy> State<D> {
         ensures outgoing { IfOk result (λ took. took.outgoing ≡ to_peers out.emitted) }
         ensures journal { OnOk result (self.new.journal.items ≡ self.old.journal.items ++ option_to_list fate) }
         ensures decisions { OnOk result (self.new.decisions.items ≡ self.old.decisions.items ++ option_to_list (decided_by slot out.decided)) }
-        ensures window { OnOk result (IsWindow self.new.decisions.items self.new.window) }
+        ensures window { OnOk result (IsWindow (self.new.before + 1) self.new.decisions.items self.new.window) }
         ensures rest { KeepsRest self.old self.new }
         ensures err { OnErr result (Leaves self.old self.new) }
         ensures only_memory { IsOkUnless result Fault.NoMemory }
@@ -331,12 +335,12 @@ impl<D: Driver + Drop + Copy> State<D> {
         fate: Option<Fate>,
     ) -> Result<Option<Onward>, Fault>
         requires short { ForSome decided (λ d. IsShortValue d.value) }
-        requires window { IsWindow self.old.decisions.items self.old.window }
+        requires window { IsWindow (self.old.before + 1) self.old.decisions.items self.old.window }
         requires is_open { IsOpen self.old.window.lowest self.old.decisions.items slot.0 }
         ensures onward { IfOk result (λ onward. onward ≡ option_map decided_onward (decided_by slot decided)) }
         ensures journal { OnOk result (self.new.journal.items ≡ self.old.journal.items ++ option_to_list fate) }
         ensures decisions { OnOk result (self.new.decisions.items ≡ self.old.decisions.items ++ option_to_list (decided_by slot decided)) }
-        ensures window { OnOk result (IsWindow self.new.decisions.items self.new.window) }
+        ensures window { OnOk result (IsWindow (self.new.before + 1) self.new.decisions.items self.new.window) }
         ensures rest { KeepsRest self.old self.new }
         ensures err { OnErr result (Leaves self.old self.new) }
         ensures only_memory { IsOkUnless result Fault.NoMemory }
@@ -351,11 +355,11 @@ impl<D: Driver + Drop + Copy> State<D> {
     }
 
     fn conclude_none(&mut self, fate: Option<Fate>) -> Result<Option<Onward>, Fault>
-        requires window { IsWindow self.old.decisions.items self.old.window }
+        requires window { IsWindow (self.old.before + 1) self.old.decisions.items self.old.window }
         ensures onward { IfOk result (λ onward. onward ≡ None) }
         ensures journal { OnOk result (self.new.journal.items ≡ self.old.journal.items ++ option_to_list fate) }
         ensures decisions { self.new.decisions.items ≡ self.old.decisions.items }
-        ensures window { IsWindow self.new.decisions.items self.new.window }
+        ensures window { IsWindow (self.new.before + 1) self.new.decisions.items self.new.window }
         ensures rest { KeepsRest self.old self.new }
         ensures err { OnErr result (Leaves self.old self.new) }
         ensures only_memory { IsOkUnless result Fault.NoMemory }
@@ -366,12 +370,12 @@ impl<D: Driver + Drop + Copy> State<D> {
 
     /// Adds a decision of an open slot, with its entry, and finds the new lowest undecided slot.
     fn conclude(&mut self, decision: SharedDecision, fate: Option<Fate>) -> Result<Onward, Fault>
-        requires window { IsWindow self.old.decisions.items self.old.window }
+        requires window { IsWindow (self.old.before + 1) self.old.decisions.items self.old.window }
         requires is_open { IsOpen self.old.window.lowest self.old.decisions.items decision.slot.0 }
         ensures onward { IfOk result (λ onward. onward ≡ decided_onward decision) }
         ensures journal { OnOk result (self.new.journal.items ≡ self.old.journal.items ++ option_to_list fate) }
         ensures decisions { OnOk result (self.new.decisions.items ≡ self.old.decisions.items ++ decision ∷ []) }
-        ensures window { OnOk result (IsWindow self.new.decisions.items self.new.window) }
+        ensures window { OnOk result (IsWindow (self.new.before + 1) self.new.decisions.items self.new.window) }
         ensures rest { KeepsRest self.old self.new }
         ensures err { OnErr result (Leaves self.old self.new) }
         ensures only_memory { IsOkUnless result Fault.NoMemory }

@@ -1,5 +1,5 @@
 //! Which slots are open.
-ghost use Rattle.std.specs.Prelude.{◌≡◌, ◌<◌, ◌≤◌, ◌+◌, ◌++◌, ◌∷◌, [], ◌↔◌, IsTrue, List, OnOk, IsOkUnless, false};
+ghost use Rattle.std.specs.Prelude.{◌≡◌, ◌<◌, ◌≤◌, ◌+◌, ◌++◌, ◌∷◌, [], ◌↔◌, ℕ, IsTrue, List, OnOk, IsOkUnless, false};
 ghost use Rattle.scp_ledger.specs.declared.journal.Decision.{Decision};
 ghost use Rattle.scp_ledger.specs.Verdicts.{IsFar};
 ghost use Rattle.scp_ledger.specs.inside.Window.{is_ahead, IsBounded, IsWindow, Passes};
@@ -23,11 +23,13 @@ pub struct Window {
 }
 
 impl Window {
-    pub fn new(alloc: Global) -> Window
-        ensures { IsWindow [] result }
+    /// Of no decisions: this slot is the lowest without one.
+    pub fn new(alloc: Global, first: u64) -> Window
+        requires low { first ≤ 4294967296 }
+        ensures { IsWindow first [] result }
     {
         Window {
-            lowest: 1,
+            lowest: first,
             ahead: BTreeSet::new(alloc),
         }
     }
@@ -52,7 +54,7 @@ impl Window {
         requires bounded { IsBounded self.old }
         requires from { self.old.lowest ≤ slot.0 }
         requires last { slot.0 ≤ LAST_SLOT }
-        ensures window { OnOk result ((ds : List Decision) → (d : Decision) → d.slot ≡ slot → IsWindow ds self.old → IsWindow (ds ++ d ∷ []) self.new) }
+        ensures window { OnOk result ((first : ℕ) → (ds : List Decision) → (d : Decision) → d.slot ≡ slot → IsWindow first ds self.old → IsWindow first (ds ++ d ∷ []) self.new) }
         ensures only_memory { IsOkUnless result Fault.NoMemory }
     {
         self.ahead.insert(slot.0)?;

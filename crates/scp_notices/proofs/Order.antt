@@ -22,9 +22,12 @@ use Rattle.scp_line.specs.scp_report.specs.Node.{report_of, reports_behind}
 use Rattle.scp_line.specs.Left.{left_behind, report_left}
 use Rattle.scp_notices.specs.inside.Seen.{applied_in}
 
+from_one : (past : List Exchange) (v : NodeView) (h : HoldsLedger past v) → AreInOrder 1 h.moment.applier.applied
+from_one past v h = subst (λ (first : ℕ). AreInOrder first h.moment.applier.applied) (h.keeps.applied.first ∙ h.first) h.keeps.applied.in_order
+
 order_of : (past : List Exchange) (v : NodeView) (h : HoldsLedger past v) → ((v.failed ≡ false) × (h.earlier ≡ past) × (h.moment ≡ v)) ⊎ FailedAfter past h.earlier v h.moment → AreInOrder 1 v.applier.applied
-order_of past v h (inl now) = subst (λ (u : NodeView). AreInOrder 1 u.applier.applied) now.2 h.keeps.applied.in_order
-order_of past v h (inr after) = subst (λ (l : List Decision). AreInOrder 1 l) (sym after.keeps.applied) h.keeps.applied.in_order
+order_of past v h (inl now) = subst (λ (u : NodeView). AreInOrder 1 u.applier.applied) now.2 (from_one past v h)
+order_of past v h (inr after) = subst (λ (l : List Decision). AreInOrder 1 l) (sym after.keeps.applied) (from_one past v h)
 
 -- of nodes that played a script
 pub nodes_in_order : TheoremGivesLedger → (commands done : List Command) (network : NetworkView) → HasPlayed commands done network → All (λ (node : NodeView). AreInOrder 1 node.applier.applied) network.nodes

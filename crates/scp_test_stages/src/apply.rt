@@ -34,29 +34,31 @@ fn decide(alloc: Global, applier: &mut Applier<KvDriver>, slot: u64) -> Result<b
     Ok(applier.take(Onward::Decided(decision))?.is_none())
 }
 
-/// Whether the right slots can be taken, before and after one is applied and another waits.
-fn has_window(alloc: Global) -> Result<bool, Fault> {
-    let mut applier = Applier::<KvDriver>::new(alloc);
-    let first = !applier.can_take(Slot(0))
-        && applier.can_take(Slot(1))
-        && applier.can_take(Slot(16))
-        && !applier.can_take(Slot(17));
-    let taken = decide(alloc, &mut applier, 16)? && decide(alloc, &mut applier, 1)?;
+/// Whether the right slots after `before` can be taken, before and after one is applied and another waits.
+fn has_window(alloc: Global, before: u32) -> Result<bool, Fault> {
+    let mut applier = Applier::<KvDriver>::new(alloc, before);
+    let at = before as u64;
+    let first = !applier.can_take(Slot(at))
+        && applier.can_take(Slot(at + 1))
+        && applier.can_take(Slot(at + 16))
+        && !applier.can_take(Slot(at + 17));
+    let taken = decide(alloc, &mut applier, at + 16)? && decide(alloc, &mut applier, at + 1)?;
     Ok(
         first
             && taken
-            && !applier.can_take(Slot(1))
-            && !applier.can_take(Slot(16))
-            && applier.can_take(Slot(17))
-            && !applier.can_take(Slot(18))
-            && applier.value_at(Slot(1)).is_some()
-            && applier.value_at(Slot(16)).is_none(),
+            && !applier.can_take(Slot(at + 1))
+            && !applier.can_take(Slot(at + 16))
+            && applier.can_take(Slot(at + 17))
+            && !applier.can_take(Slot(at + 18))
+            && applier.value_at(Slot(at)).is_none()
+            && applier.value_at(Slot(at + 1)).is_some()
+            && applier.value_at(Slot(at + 16)).is_none(),
     )
 }
 
 #[test]
 fn sixteen_slots_can_be_taken(rt: HostRuntime) -> Result<(), Fail> {
-    assert!(rt; has_window(rt.alloc())?);
+    assert!(rt; has_window(rt.alloc(), 0)? && has_window(rt.alloc(), u32::MAX)?);
     Ok(())
 }
 
@@ -73,7 +75,7 @@ fn has_applied(applier: &Applier<KvDriver>, last: u64) -> bool {
 /// Whether two slots are applied; or the applier runs out of memory, has failed, and keeps what it applied before.
 fn applies_or_fails(alloc: Global) -> Result<bool, Fault> {
     let second = decision(alloc, 2)?;
-    let mut applier = Applier::<KvDriver>::new(alloc);
+    let mut applier = Applier::<KvDriver>::new(alloc, 0);
     if !decide(alloc, &mut applier, 1)? || !applier.can_take(Slot(2)) {
         return Ok(false);
     }

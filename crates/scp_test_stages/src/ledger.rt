@@ -115,7 +115,7 @@ fn is_so<F: FnOnce(&mut Ledger<KvDriver>) -> Result<bool, Fault>>(
 {
     let local = own(alloc)?;
     let peers = Vec::from_slice(alloc, &[TWO, THREE])?;
-    let mut ledger = Ledger::new(alloc, ME, local, KvDriver, peers);
+    let mut ledger = Ledger::new(alloc, ME, local, KvDriver, peers, 0);
     told(&mut ledger)
 }
 
@@ -181,7 +181,8 @@ fn answers(alloc: Global, ledger: &mut Ledger<KvDriver>) -> Result<bool, Fault> 
         [first, second] => first.slot == Slot(2) && is_by_both(alloc, second)?,
         _ => false,
     };
-    Ok(is_it && ledger.lowest() == 3 && ledger.journal().len() == 8)
+    let slots = ledger.first() == 1 && ledger.lowest() == 3;
+    Ok(is_it && slots && ledger.journal().len() == 8)
 }
 
 /// Whether the decision is for slot 1, by the votes of nodes 1 and 2, for the commit with counter 1.

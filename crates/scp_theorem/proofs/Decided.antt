@@ -12,7 +12,7 @@ use Rattle.scp_ledger.specs.declared.journal.Decision.{Decision}
 use Rattle.scp_ledger.specs.Decisions.{IsFounded}
 use Rattle.scp_ledger.specs.Onwards.{decisions_on, decision_on}
 use Rattle.scp_ledger.specs.Verdicts.{link_of}
-use Rattle.scp_apply.specs.Applier.{IsLater}
+use Rattle.scp_apply.specs.Applier.{IsLater, next_of}
 use Rattle.scp_theorem.specs.Account.{Account, Ran}
 use Rattle.scp_theorem.specs.Kept.{AreDecided, AreApplied}
 
@@ -20,7 +20,7 @@ take_front : {X : Type 0} (xs ys : List X) → take (length xs) (xs ++ ys) ≡ x
 take_front [] ys = refl
 take_front (x ∷ xs) ys = ap (λ zs. x ∷ zs) (take_front xs ys)
 
-isnt_next : (n : ℕ) (d : Decision) → IsLater n d.slot.0 → d.slot.0 ≡ n + 1 → ⊥
+isnt_next : (n : ℕ) (d : Decision) → IsLater n d.slot.0 → d.slot.0 ≡ n → ⊥
 isnt_next n d h e = let later = h.later in omega (arith, later, e)
 
 module _ {D : Type 0} {level : D → ℕ → List ℕ → Level} {extracted : D → ℕ → List ℕ → Option (List ℕ)} {combined : D → ℕ → List (List ℕ) → List ℕ} {place : D → ℕ → ℕ → ℕ → ℕ} (a : Account D) (r : Ran level extracted combined place a) where
@@ -62,8 +62,9 @@ module _ {D : Type 0} {level : D → ℕ → List ℕ → Level} {extracted : D 
 
   pub applied_at : AreApplied a
   applied_at = record {
+    first = r.first;
     in_order = r.applies.known.in_order;
     decided = in_decisions;
     shared_out = shared_at;
-    next_missing = All-weaker (λ (d : Decision). IsLater (length a.applier.applied) d.slot.0) (λ (d : Decision). d.slot.0 ≡ length a.applier.applied + 1 → ⊥) (λ d later. isnt_next (length a.applier.applied) d later) a.applier.buffer r.applies.running.in_window;
+    next_missing = All-weaker (λ (d : Decision). IsLater (next_of a.applier) d.slot.0) (λ (d : Decision). d.slot.0 ≡ next_of a.applier → ⊥) (λ d later. isnt_next (next_of a.applier) d later) a.applier.buffer r.applies.running.in_window;
   }

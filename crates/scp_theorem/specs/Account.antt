@@ -37,11 +37,11 @@ pub record Account (D : Type 0) : Type 0 where
   pub ledger : LedgerView D
   -- what is between the slot stage and the applier
   pub onward : List Onward
-  -- the applier: what is applied
+  -- the applier: what is applied, from the slot on with which the slot stage began too
   pub applier : ApplierView
 
 -- Each link carries what its tail may send. Each stage took, in order, what the one before it gave, except what is still between them. Each
--- stage is, for what it took and gave, as its calls promise.
+-- stage is, for what it took and gave, as its calls promise. The slot stage and the applier began with the same slot.
 pub record Ran {D : Type 0} (level : D → ℕ → List ℕ → Level) (extracted : D → ℕ → List ℕ → Option (List ℕ)) (combined : D → ℕ → List (List ℕ) → List ℕ) (place : D → ℕ → ℕ → ℕ → ℕ) (a : Account D) : Type 0 where
   pub links : (l : ℕ) → (peer : NodeId) → slice_get a.peers l ≡ Some peer → AreOfLink peer a.me never_open (a.sent l)
   pub read : (l : ℕ) → (peer : NodeId) → slice_get a.peers l ≡ Some peer → readings unread (a.sent l) ≡ of_peer peer (a.came ++ a.inbox) ++ a.upcoming l
@@ -55,3 +55,4 @@ pub record Ran {D : Type 0} (level : D → ℕ → List ℕ → Level) (extracte
   pub applied : List Onward
   pub decided : onwards ≡ applied ++ a.onward
   pub applies : Applies applied a.applier
+  pub first : a.applier.first ≡ a.ledger.first

@@ -1,5 +1,5 @@
 -- The ledger theorem, in one record.
-use Rattle.std.specs.Prelude.{ℕ, ◌+◌, ◌≡◌, ◌≢◌, ◌≤◌, true, not, ◌&&◌, List, [], ◌∷◌, ◌++◌, Some, All, Contains, length, slice_get, map, flat_map, fold, Option}
+use Rattle.std.specs.Prelude.{ℕ, ◌≡◌, ◌≢◌, ◌≤◌, true, not, ◌&&◌, List, [], ◌∷◌, ◌++◌, Some, All, Contains, length, slice_get, map, flat_map, fold, Option}
 use Rattle.std.specs.List.{AllByRecursion}
 use Rattle.std.specs.List.Sorted.{IsPermutation}
 use Rattle.scp_types.specs.declared.limits.TheConstants.{CARRIED_LIMIT}
@@ -39,6 +39,7 @@ use Rattle.scp_ledger.specs.Runs.{Taking, things, nothing_taken, Leads, stood_by
 use Rattle.scp_ledger.specs.Seen.{is_asked}
 use Rattle.scp_ledger.specs.Verdicts.{HasItsSet, link_of}
 use Rattle.scp_apply.specs.Applied.{AreInOrder}
+use Rattle.scp_apply.specs.Applier.{next_of}
 use Rattle.scp_theorem.specs.Account.{Account, Ran}
 use Rattle.scp_theorem.specs.Fates.{Fates, conn_of, IsOfLink, FateHasCause, ways_on}
 
@@ -101,11 +102,11 @@ module _ {D : Type 0} where
   -- in other lanes. A link was asked for a slot only where a command said so.
   pub record AreJudgedInTurn (level : D → ℕ → List ℕ → Level) (extracted : D → ℕ → List ℕ → Option (List ℕ)) (combined : D → ℕ → List (List ℕ) → List ℕ) (place : D → ℕ → ℕ → ℕ → ℕ) (a : Account D) : Type 0 where
     pub takes : List Taking
-    pub leads : Leads level extracted combined place (nothing_taken a.me a.set a.ledger.driver a.peers) takes a.ledger
+    pub leads : Leads level extracted combined place (nothing_taken a.me a.set a.ledger.driver a.peers a.ledger.first) takes a.ledger
     pub released : things takes ++ leaving a ≡ released_by (start_of a) a.came
     pub entries : map entry_in a.ledger.journal ≡ flat_map entry_of (things takes)
     pub verdicts : flat_map verdict_in a.ledger.journal ≡ flat_map verdict_by takes
-    pub judged : AreJudged (level a.ledger.driver) a.me a.peers [] takes
+    pub judged : AreJudged a.ledger.first (level a.ledger.driver) a.me a.peers [] takes
     pub decided : a.ledger.decisions ≡ (stood_by takes).decisions
     pub commands : commands_of (things takes ++ leaving a) ≡ commands_in a.came
     pub places : (before : List Inbound) (command : Command) (after' : List Inbound) → a.came ≡ before ++ inbound.Local command ∷ after' → StandsAt (start_of a) before command (things takes ++ leaving a)
@@ -120,22 +121,23 @@ module _ {D : Type 0} where
   -- quorum set with the hash that it names.
   pub record AreDecided (a : Account D) : Type 0 where
     pub one : OnePerSlot a.ledger.decisions
-    pub placed : AreInWindow [] a.ledger.decisions
+    pub placed : AreInWindow a.ledger.first [] a.ledger.decisions
     pub founded : All (IsFounded a.me a.set (link_of a.peers) a.ledger.asked a.ledger.journal) a.ledger.decisions
     pub named : All (HasItsDecision a.ledger.decisions) a.ledger.journal
     pub sets : All HasItsSet a.ledger.journal
     pub few : length a.ledger.journal ≤ JOURNAL_LIMIT
-    pub lowest : IsLowest a.ledger.decisions a.ledger.lowest
+    pub lowest : IsLowest a.ledger.first a.ledger.decisions a.ledger.lowest
 
   -- ---- what is applied
 
-  -- Slots 1 to n are applied once each, in order, each with its decision. Every other decision is
-  -- buffered or on its way to the applier. Slot n + 1 isn't buffered.
+  -- The slots from the first on, with which the slot stage and the applier began, are applied once each, in order,
+  -- each with its decision. Every other decision is buffered or on its way to the applier. The next slot isn't buffered.
   pub record AreApplied (a : Account D) : Type 0 where
-    pub in_order : AreInOrder 1 a.applier.applied
+    pub first : a.applier.first ≡ a.ledger.first
+    pub in_order : AreInOrder a.applier.first a.applier.applied
     pub decided : All (Contains a.ledger.decisions) a.applier.applied
     pub shared_out : IsPermutation a.ledger.decisions (a.applier.applied ++ (a.applier.buffer ++ decisions_on a.onward))
-    pub next_missing : All (λ d. d.slot.0 ≢ length a.applier.applied + 1) a.applier.buffer
+    pub next_missing : All (λ d. d.slot.0 ≢ next_of a.applier) a.applier.buffer
 
   -- ---- the theorem
 
@@ -159,7 +161,7 @@ module _ {D : Type 0} where
     pub verdicts : AreJudgedInTurn level extracted combined place a
     -- each decision is the one of its slot, certified by a quorum or named by a taken record
     pub decisions : AreDecided a
-    -- slots 1 to n are applied, in order
+    -- the slots from the first on are applied, in order
     pub applied : AreApplied a
 
 -- the ledger theorem follows from `Ran`

@@ -28,6 +28,6 @@ nothing_sent me set peers pending ledger applier = record {
   applier = applier;
 }
 
--- `Ran` holds of it, if its stages are as their calls promise for empty lists
+-- `Ran` holds of it, if its stages are as their calls promise for empty lists, and the applier begins with the slot stage's first slot
 abbrev pub NothingSentRan : {D : Type 0} → (D → ℕ → List ℕ → Level) → (D → ℕ → List ℕ → Option (List ℕ)) → (D → ℕ → List (List ℕ) → List ℕ) → (D → ℕ → ℕ → ℕ → ℕ) → Type 0
-NothingSentRan {D} level extracted combined place = (me : NodeId) (set : QuorumTree) (peers : List NodeId) (pending : PendingView) (ledger : LedgerView D) (applier : ApplierView) → pending.settled.store.local ≡ set → Pends me peers [] [] pending → Journals level extracted combined place me set peers [] [] ledger → Applies [] applier → Ran level extracted combined place (nothing_sent me set peers pending ledger applier)
+NothingSentRan {D} level extracted combined place = (me : NodeId) (set : QuorumTree) (peers : List NodeId) (pending : PendingView) (ledger : LedgerView D) (applier : ApplierView) → pending.settled.store.local ≡ set → Pends me peers [] [] pending → Journals level extracted combined place me set peers [] [] ledger → Applies [] applier → applier.first ≡ ledger.first → Ran level extracted combined place (nothing_sent me set peers pending ledger applier)

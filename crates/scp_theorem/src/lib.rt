@@ -7,8 +7,8 @@
 //!   messages, and what is live of it is so by its place.
 //! - The node's own quorum set is sane. A slot whose quorum set is never found delays no other slot.
 //! - Each fate has its cause among what came, and each taken envelope has its quorum set. Each verdict is the first that fits.
-//! - Slots 1 to n are applied once each, in order, each with its slot's one decision, certified by a quorum or named by a taken record. The
-//!   state that they make is promised where it is read.
+//! - The slots from the first on are applied once each, in order, each with its slot's one decision, certified by a quorum or named by a
+//!   taken record. The state that they make is promised where it is read.
 //!
 //! It doesn't matter what moves the things from stage to stage: one caller, event by event, or threads.
 #![tactic(auto)]

@@ -1,5 +1,5 @@
 -- The applier as a worker's stage.
-use Rattle.std.specs.Prelude.{List}
+use Rattle.std.specs.Prelude.{◌≡◌, List}
 use Rattle.scp_ledger.specs.declared.took.Onward.{Onward}
 use Rattle.scp_ledger.specs.declared.took.Outgoing.{Outgoing}
 use Rattle.scp_grounds.specs.Handed.{Answers}
@@ -16,10 +16,11 @@ ApplyWork = Work Onward Nothing ApplierView
 abbrev pub ApplyEnd : Type 0
 ApplyEnd = End Onward Nothing ApplierView
 
--- the applier took these, and handed out its answers to them; it gives nothing on
+-- the applier, which began with slot 1, took these, and handed out its answers to them; it gives nothing on
 pub record AppliesFrom (first : ApplierView) (took : List Onward) (gave : List Nothing) (out : List Outgoing) (now : ApplierView) : Type 0 where
   pub applies : Applies took now
   pub answers : Answers first took out now
+  pub from_one : now.first ≡ 1
 
 -- nothing is ever left to give
 abbrev pub GivesNothing : ApplierView → Type 0

@@ -46,14 +46,16 @@ module _ {D : Type 0} (says : Says D) where
     pub onwards_are : onwards_of takes ≡ onwards
     pub outs_are : outs_of takes ≡ outs
     pub fates_are : fates_of takes ≡ fates
-    pub told : TellsEach (nothing_taken me local v.driver peers) takes v
+    pub told : TellsEach (nothing_taken me local v.driver peers v.first) takes v
 
   -- ---- all that it did
 
-  -- a ledger of the first one's node took these, gave these on and handed these out; the kept fates are those of the commands among them
+  -- a ledger of the first one's node, which began with slot 1, took these, gave these on and handed these out; the kept fates are those of the
+  -- commands among them
   pub record JournalsFrom (first : SlotStage D) (took : List Ready) (gave : List Onward) (out : List Outgoing) (now : SlotStage D) : Type 0 where
     pub journals : JournalsBy says first.ledger.me first.ledger.local first.ledger.peers took gave now.ledger
     pub told : HaveFates first.ledger.me first.ledger.local first.ledger.peers took gave out now.fates.items now.ledger
+    pub from_one : now.ledger.first ≡ 1
 
 module _ {D : Type 0} where
   -- nothing is left to give: what it gives it gives at once

@@ -68,7 +68,7 @@ pub fn applier<A: Application>(
     Worker::new(
         node,
         Place::Apply,
-        Applier::new(alloc),
+        Applier::new(alloc, 0),
         outlets,
         rx,
         1,

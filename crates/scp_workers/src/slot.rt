@@ -100,7 +100,7 @@ pub fn slots<D: Driver + Drop + Copy>(
 {
     what_holds_of_a_ledger_holds_with_one_thing_more::<D>();
     let stage = SlotStage {
-        ledger: Ledger::new(alloc, node, local, driver, peers),
+        ledger: Ledger::new(alloc, node, local, driver, peers, 0),
         fates: Vec::new(alloc),
     };
     Worker::new(node, Place::Slot, stage, outlets, rx, 1, Some(tx))

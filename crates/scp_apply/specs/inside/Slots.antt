@@ -8,17 +8,21 @@ use Rattle.scp_apply.specs.declared.applier.Applier.TheInside as applier
 use Rattle.scp_apply.specs.Applied.{AreInOrder, made_of}
 use Rattle.scp_apply.specs.Applier.{ApplierView}
 
--- slots 1 to n are applied in order; what is buffered is of the 16 slots from n + 1 on, no slot twice
+-- the slot that is applied next
+abbrev pub next_in : Slots → ℕ
+next_in s = s.before + 1 + length s.applied.items
+
+-- the slots from the first on are applied in order; what is buffered is of the 16 slots from the next on, no slot twice
 pub record IsApplied (s : Slots) : Type 0 where
-  pub in_order : AreInOrder 1 s.applied.items
-  pub above : All (λ d. length s.applied.items < d.slot.0) s.buffer.items
-  pub near : All (λ d. d.slot.0 ≤ length s.applied.items + 16) s.buffer.items
+  pub in_order : AreInOrder (s.before + 1) s.applied.items
+  pub above : All (λ d. next_in s ≤ d.slot.0) s.buffer.items
+  pub near : All (λ d. d.slot.0 < next_in s + 16) s.buffer.items
   pub one : OnePerSlot s.buffer.items
 
--- and slot n + 1 isn't buffered
+-- and the next slot isn't buffered
 pub record IsSound (s : Slots) : Type 0 where
   pub is_applied : IsApplied s
-  pub next_missing : All (λ d. d.slot.0 ≢ length s.applied.items + 1) s.buffer.items
+  pub next_missing : All (λ d. d.slot.0 ≢ next_in s) s.buffer.items
 
 -- one buffered decision was applied to the state
 pub record AppliesOne {S : Type 0} (after' : S → List ℕ → S) (old : Slots) (before : S) (place : ℕ) (new : Slots) (state : S) : Type 0 where
@@ -49,12 +53,12 @@ abbrev pub IsMade : {S : Type 0} → S → (S → List ℕ → S) → Slots → 
 IsMade first after' s state = state ≡ made_of first after' s.applied.items
 
 abbrev pub slots_view : Bool → Slots → ApplierView
-slots_view failed s = record { failed = failed; applied = s.applied.items; buffer = s.buffer.items }
+slots_view failed s = record { first = s.before + 1; failed = failed; applied = s.applied.items; buffer = s.buffer.items }
 
 abbrev pub applier_view : {A S : Type 0} → applier.Inside A S → ApplierView
 applier_view a = slots_view a.failed a.slots
 
 pub record IsWell {A S : Type 0} (first : S) (after' : S → List ℕ → S) (a : applier.Inside A S) : Type 0 where
-  pub in_order : AreInOrder 1 a.slots.applied.items
+  pub in_order : AreInOrder (a.slots.before + 1) a.slots.applied.items
   pub sound : a.failed ≡ false → IsSound a.slots
   pub made : a.failed ≡ false → IsMade first after' a.slots a.state

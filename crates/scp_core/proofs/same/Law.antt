@@ -26,11 +26,11 @@ module _ {D : Type 0} where
         inbox = (refl, refl);
         pending = refl;
         ready = (refl, refl, refl);
-        ledger = record { me = refl; local = refl; driver = refl; peers = refl; failed = refl; journal = refl; decisions = refl; lowest = refl; asked = λ a. refl; machines = λ s. tt };
+        ledger = record { me = refl; local = refl; driver = refl; peers = refl; first = refl; failed = refl; journal = refl; decisions = refl; lowest = refl; asked = λ a. refl; machines = λ s. tt };
         last_command = refl;
         last_said = refl;
         decided = (refl, refl, refl);
-        applier = record { failed = refl; applied = refl; buffer = λ d. (λ h. h, λ h. h) };
+        applier = record { first = refl; failed = refl; applied = refl; buffer = λ d. (λ h. h, λ h. h) };
         outboxes = refl;
       } in
       record { kept = kept_of (made driver c) (made driver c) refl alike; runs = λ _. alike }

@@ -58,11 +58,11 @@ use Rattle.scp_core.proofs.same.Slots.{Knows, machine_one}
 
 -- ---- the lowest undecided slot, and which slots are open
 
-lowest_one : (ds : List Decision) (a b : ℕ) → IsLowest ds a → IsLowest ds b → a ≡ b
-lowest_one ds a b x y = elim (cases_lt a b) [
-  | inl below ↦ absurd (not_both (sym x.undecided ∙ y.decided a x.from_one below))
+lowest_one : (first : ℕ) (ds : List Decision) (a b : ℕ) → IsLowest first ds a → IsLowest first ds b → a ≡ b
+lowest_one first ds a b x y = elim (cases_lt a b) [
+  | inl below ↦ absurd (not_both (sym x.undecided ∙ y.decided a x.from_first below))
   | inr above ↦ elim (cases_lt b a) [
-    | inl below ↦ absurd (not_both (sym y.undecided ∙ x.decided b y.from_one below))
+    | inl below ↦ absurd (not_both (sym y.undecided ∙ x.decided b y.from_first below))
     | inr same ↦ omega (arith, above, same)
   ]
 ]
@@ -170,7 +170,7 @@ module _ {D : Type 0} (level : D → ℕ → List ℕ → Level) (extracted : D 
   passed : (fs gs : List Fate) (t s : LedgerView D) → map said fs ≡ map said gs → t ≡ record v { journal = v.journal ++ fs } → s ≡ record w { journal = j ++ gs } → ShowSameLedger t s
   passed fs gs t s e x y =
       subst (λ (u : LedgerView D). ShowSameLedger u s) (sym x) (subst (λ (u : LedgerView D). ShowSameLedger (record v { journal = v.journal ++ fs }) u) (sym y)
-      (record { me = refl; local = refl; driver = refl; peers = refl; failed = refl; journal = said_more fs gs e; decisions = refl; lowest = refl; asked = asked; machines = machines }))
+      (record { me = refl; local = refl; driver = refl; peers = refl; first = refl; failed = refl; journal = said_more fs gs e; decisions = refl; lowest = refl; asked = asked; machines = machines }))
 
   passes_one : (a b : Option Verdict) (fs gs : List Fate) (t s : Took) (v2 w2 : LedgerView D) → a ≡ b → map said fs ≡ map said gs → Passes v a fs t v2 → Passes w b gs s w2 → SameTook t s v2 w2
   passes_one a b fs gs t s v2 w2 same e x y = record { verdict = x.verdict ∙ same ∙ sym y.verdict; onward = x.onward ∙ sym y.onward; outgoing = x.outgoing ∙ sym y.outgoing; view = passed fs gs v2 w2 e x.same y.same }
@@ -207,12 +207,13 @@ module _ {D : Type 0} (level : D → ℕ → List ℕ → Level) (extracted : D 
         let f : IsMachineOf level place v.me v.local v.driver v.journal v.decisions at.0 there = subst (λ (o : Option (SlotMachine D)). FitsMachine level place v.me v.local v.driver v.journal v.decisions at.0 o) e (running.machines at.0) in
         subst (λ (z : SlotMachine D). Knows (slot_view z)) (sym x) (record { me = f.running.me; shows = f.running.nominations.statements; range = subst IsInRange (sym f.set ∙ f.running.local) range })
 
-    runs_one : (at : Slot) (g h : SlotInput) (fs gs : List Fate) (t s : Took) (v2 w2 : LedgerView D) → SameInput g h → (x : RunsAt level extracted combined place v at g fs t v2) → (y : RunsAt level extracted combined place w at h gs s w2) → (x.out ≡ y.out → map said fs ≡ map said gs) → IsLowest v2.decisions v2.lowest → IsLowest w2.decisions w2.lowest → SameTook t s v2 w2
+    runs_one : (at : Slot) (g h : SlotInput) (fs gs : List Fate) (t s : Took) (v2 w2 : LedgerView D) → SameInput g h → (x : RunsAt level extracted combined place v at g fs t v2) → (y : RunsAt level extracted combined place w at h gs s w2) → (x.out ≡ y.out → map said fs ≡ map said gs) → IsLowest v2.first v2.decisions v2.lowest → IsLowest w2.first w2.decisions w2.lowest → SameTook t s v2 w2
     runs_one at g h fs gs t s v2 w2 same x y fates low low2 =
         let before = start_one at (machine_at v.machines at.0) (machine_at ms at.0) x.before y.before (machines at.0) x.machine y.machine in
         let one = machine_one level extracted combined place law x.before y.before x.after y.after g h x.out y.out same before.0 before.1 (knows_one at (machine_at v.machines at.0) refl x.before x.machine)
         (record { takes = x.takes; decides = x.decides; driver = x.driver; nominates = x.nominates; ascends = x.ascending })
         (record { takes = y.takes; decides = y.decides; driver = y.driver; nominates = y.nominates; ascends = y.ascending }) in
+        let first : v2.first ≡ w2.first = ap (λ (u : LedgerView D). u.first) x.same ∙ sym (ap (λ (u : LedgerView D). u.first) y.same) in
         let decisions : v2.decisions ≡ w2.decisions = x.decisions ∙ ap (λ (o : SlotOutput). v.decisions ++ option_to_list (decision_of at o.decided)) one.out ∙ sym y.decisions in
         let now : (driver_of x.after ≡ driver_of y.after) × ShowSameSlot (slot_view x.after) (slot_view y.after) = (x.driver ∙ before.0 ∙ sym y.driver, one.view) in
         record {
@@ -224,17 +225,18 @@ module _ {D : Type 0} (level : D → ℕ → List ℕ → Level) (extracted : D 
             local = ap (λ (u : LedgerView D). u.local) x.same ∙ sym (ap (λ (u : LedgerView D). u.local) y.same);
             driver = ap (λ (u : LedgerView D). u.driver) x.same ∙ sym (ap (λ (u : LedgerView D). u.driver) y.same);
             peers = ap (λ (u : LedgerView D). u.peers) x.same ∙ sym (ap (λ (u : LedgerView D). u.peers) y.same);
+            first = first;
             failed = ap (λ (u : LedgerView D). u.failed) x.same ∙ sym (ap (λ (u : LedgerView D). u.failed) y.same);
             journal = ap (map said) x.journal ∙ said_more fs gs (fates one.out) ∙ sym (ap (map said) y.journal);
             decisions = decisions;
-            lowest = lowest_one v2.decisions v2.lowest w2.lowest low (subst (λ (ds : List Decision). IsLowest ds w2.lowest) (sym decisions) low2);
+            lowest = lowest_one v2.first v2.decisions v2.lowest w2.lowest low (subst (λ (ds : List Decision). IsLowest v2.first ds w2.lowest) (sym decisions) (subst (λ (n : ℕ). IsLowest n w2.decisions w2.lowest) (sym first) low2));
             asked = λ a. ap (λ (u : LedgerView D). is_asked u.asked a) x.same ∙ asked a ∙ sym (ap (λ (u : LedgerView D). is_asked u.asked a) y.same);
             machines = λ q. moved (machine_at v2.machines q) (machine_at w2.machines q) _ _ (x.machines q) (y.machines q ∙ ap (λ (o : SlotOutput). cond (tree.is_at (nat_cmp at.0) q) (cond (is_some o.decided) None (Some y.after)) (machine_at ms q)) (sym one.out))
                 (stands_one (tree.is_at (nat_cmp at.0) q) (is_some x.out.decided) x.after y.after (machine_at v.machines q) (machine_at ms q) now (machines q));
           };
         }
 
-    module _ (t s : Took) (v2 w2 : LedgerView D) (low : IsLowest v2.decisions v2.lowest) (low2 : IsLowest w2.decisions w2.lowest) where
+    module _ (t s : Took) (v2 w2 : LedgerView D) (low : IsLowest v2.first v2.decisions v2.lowest) (low2 : IsLowest w2.first w2.decisions w2.lowest) where
       envelope_one : (conn : ConnId) (seq : Seq) (e : Boxed) (set : Option QuorumTree) → TakesEnvelope level extracted combined place v conn seq e set t v2 → TakesEnvelope level extracted combined place w conn seq e set s w2 → SameTook t s v2 w2
       envelope_one conn seq e set x y =
           let sets : x.0.value ≡ y.0.value = some_one x.0.value y.0.value (sym x.1 ∙ y.1) in
@@ -257,6 +259,7 @@ module _ {D : Type 0} (level : D → ℕ → List ℕ → Level) (extracted : D 
 
       decides_one : (conn : ConnId) (seq : Seq) (at : Slot) (value : List ℕ) (set there : Option SharedSet) → t.verdict ≡ s.verdict → option_map (λ (q : SharedSet). q.value) set ≡ option_map (λ (q : SharedSet). q.value) there → Decides v conn seq at value set t v2 → Decides w conn seq at value there s w2 → SameTook t s v2 w2
       decides_one conn seq at value set there verdict sets x y =
+          let first : v2.first ≡ w2.first = ap (λ (u : LedgerView D). u.first) x.same ∙ sym (ap (λ (u : LedgerView D). u.first) y.same) in
           let decisions : v2.decisions ≡ w2.decisions = x.decisions ∙ sym y.decisions in
           record {
             verdict = verdict;
@@ -267,10 +270,11 @@ module _ {D : Type 0} (level : D → ℕ → List ℕ → Level) (extracted : D 
               local = ap (λ (u : LedgerView D). u.local) x.same ∙ sym (ap (λ (u : LedgerView D). u.local) y.same);
               driver = ap (λ (u : LedgerView D). u.driver) x.same ∙ sym (ap (λ (u : LedgerView D). u.driver) y.same);
               peers = ap (λ (u : LedgerView D). u.peers) x.same ∙ sym (ap (λ (u : LedgerView D). u.peers) y.same);
+              first = first;
               failed = ap (λ (u : LedgerView D). u.failed) x.same ∙ sym (ap (λ (u : LedgerView D). u.failed) y.same);
               journal = ap (map said) x.journal ∙ said_more (Taken conn seq (Record at value) set Deciding ∷ []) (Taken conn seq (Record at value) there Deciding ∷ []) (λ i. (Entry.taken conn seq (Record at value) (sets i), Deciding ∷ []) ∷ []) ∙ sym (ap (map said) y.journal);
               decisions = decisions;
-              lowest = lowest_one v2.decisions v2.lowest w2.lowest low (subst (λ (ds : List Decision). IsLowest ds w2.lowest) (sym decisions) low2);
+              lowest = lowest_one v2.first v2.decisions v2.lowest w2.lowest low (subst (λ (ds : List Decision). IsLowest v2.first ds w2.lowest) (sym decisions) (subst (λ (n : ℕ). IsLowest n w2.decisions w2.lowest) (sym first) low2));
               asked = λ a. ap (λ (u : LedgerView D). is_asked u.asked a) x.same ∙ asked a ∙ sym (ap (λ (u : LedgerView D). is_asked u.asked a) y.same);
               machines = λ q. moved (machine_at v2.machines q) (machine_at w2.machines q) _ _ (x.machines q) (y.machines q) (gone_one (tree.is_at (nat_cmp at.0) q) (machine_at v.machines q) (machine_at ms q) (machines q));
             };
@@ -329,7 +333,7 @@ module _ {D : Type 0} (level : D → ℕ → List ℕ → Level) (extracted : D 
             onward = x.onward ∙ sym y.onward;
             outgoing = x.outgoing ∙ sym y.outgoing;
             view = subst (λ (u : LedgerView D). ShowSameLedger u w2) (sym x.same) (subst (λ (u : LedgerView D). ShowSameLedger (record v { asked = v2.asked }) u) (sym y.same)
-                (record { me = refl; local = refl; driver = refl; peers = refl; failed = refl; journal = journal; decisions = refl; lowest = refl; asked = one; machines = machines }));
+                (record { me = refl; local = refl; driver = refl; peers = refl; first = refl; failed = refl; journal = journal; decisions = refl; lowest = refl; asked = one; machines = machines }));
           }
 
       ask_one : (link : ℕ) (at : Slot) → TakesAsk v link at t v2 → TakesAsk w link at s w2 → SameTook t s v2 w2
@@ -405,7 +409,7 @@ pub record SameTaking {D : Type 0} (t s : Took) (v w : LedgerView D) : Type 0 wh
   pub view : ShowSameLedger v w
 
 module _ {D : Type 0} (level : D → ℕ → List ℕ → Level) (extracted : D → ℕ → List ℕ → Option (List ℕ)) (combined : D → ℕ → List (List ℕ) → List ℕ) (place : D → ℕ → ℕ → ℕ → ℕ) (law : SlotLaws D) where
-  pub taking_one : (v w v2 w2 : LedgerView D) (thing : Ready) (t s : Took) → ShowSameLedger v w → IsRunning level place v → IsInRange v.local → Takes level extracted combined place v thing t v2 → TellsFate level v thing t → Takes level extracted combined place w thing s w2 → TellsFate level w thing s → IsLowest v2.decisions v2.lowest → IsLowest w2.decisions w2.lowest → SameTaking t s v2 w2
+  pub taking_one : (v w v2 w2 : LedgerView D) (thing : Ready) (t s : Took) → ShowSameLedger v w → IsRunning level place v → IsInRange v.local → Takes level extracted combined place v thing t v2 → TellsFate level v thing t → Takes level extracted combined place w thing s w2 → TellsFate level w thing s → IsLowest v2.first v2.decisions v2.lowest → IsLowest w2.first w2.decisions w2.lowest → SameTaking t s v2 w2
   taking_one v w v2 w2 thing t s same running range x tx y ty low low2 =
       let other : LedgerView D = beside v w.journal w.asked w.machines in
       let is : w ≡ other = λ i. record {
@@ -413,6 +417,7 @@ module _ {D : Type 0} (level : D → ℕ → List ℕ → Level) (extracted : D 
         local = sym same.local i;
         driver = sym same.driver i;
         peers = sym same.peers i;
+        first = sym same.first i;
         failed = sym same.failed i;
         journal = w.journal;
         decisions = sym same.decisions i;

@@ -250,10 +250,10 @@ module _ {D : Type 0} (says : Says D) where
 
     -- ---- the applier
 
-    in_window : (x : Onward) (rest : List Onward) → v.decided ≡ x ∷ rest → KeepsWindow (f.applied ++ x ∷ [])
+    in_window : (x : Onward) (rest : List Onward) → v.decided ≡ x ∷ rest → KeepsWindow v.applier.first (f.applied ++ x ∷ [])
     in_window x rest e =
         let all : f.onwards ≡ (f.applied ++ x ∷ []) ++ (rest ++ option_to_list v.slot_hand) = f.decided ∙ ap (λ (os : List Onward). f.applied ++ (os ++ option_to_list v.slot_hand)) e ∙ sym (append_assoc f.applied (x ∷ []) (rest ++ option_to_list v.slot_hand)) in
-        law.window.begins (f.applied ++ x ∷ []) (rest ++ option_to_list v.slot_hand) (subst KeepsWindow all (subst (λ (ds : List Decision). AreInWindow [] ds) (sym f.journal.decided) f.journal.known.placed))
+        subst (λ (first : ℕ). KeepsWindow first (f.applied ++ x ∷ [])) (sym f.first.1) (law.window.begins v.ledger.first (f.applied ++ x ∷ []) (rest ++ option_to_list v.slot_hand) (subst (KeepsWindow v.ledger.first) all (subst (λ (ds : List Decision). AreInWindow v.ledger.first [] ds) (sym f.journal.decided) f.journal.known.placed)))
 
     apply_moves : reply ≡ other → ApplyTakes v new → ApplyTakes u there → BothStep reply other new there
     apply_moves same x y =

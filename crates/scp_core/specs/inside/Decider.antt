@@ -38,13 +38,13 @@ module _ {D : Type 0} where
   abbrev pub new_decider : NodeId → QuorumTree → D → List NodeId → ℕ → DeciderView D
   new_decider me local driver peers room = record {
     failed = false;
-    ledger = nothing_taken me local driver peers;
+    ledger = nothing_taken me local driver peers 1;
     hand = None;
     last_command = None;
     last_said = [];
     queue = [];
     room = room;
-    applier = record { failed = false; applied = []; buffer = [] };
+    applier = record { first = 1; failed = false; applied = []; buffer = [] };
   }
 
   abbrev pub fail : DeciderView D → DeciderView D
@@ -59,6 +59,7 @@ module _ {D : Type 0} (says : Says D) where
     pub deciding : RunsBy says v.ledger
     pub applier : IsApplier v.applier
     pub running : IsRunning v.applier
+    pub first : v.applier.first ≡ v.ledger.first
     pub taken : List Decision
     pub decided : v.ledger.decisions ≡ taken ++ decisions_on (v.queue ++ option_to_list v.hand)
     pub shared_out : IsPermutation taken (v.applier.applied ++ v.applier.buffer)

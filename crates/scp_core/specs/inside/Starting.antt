@@ -27,13 +27,13 @@ module _ {D : Type 0} (says : Says D) where
     pub settled : v.pending.settled ≡ fresh v.config.me v.config.peers v.config.set
     pub leaving : v.pending.leaving ≡ []
     pub pending : Pends v.config.me v.config.peers [] [] v.pending
-    pub ledger : v.ledger ≡ nothing_taken v.config.me v.config.set v.ledger.driver v.config.peers
+    pub ledger : v.ledger ≡ nothing_taken v.config.me v.config.set v.ledger.driver v.config.peers 1
     pub known : IsLedger v.ledger
     pub deciding : RunsBy says v.ledger
     pub told : v.last_command ≡ None
     pub said : v.last_said ≡ []
     pub applier : Applies [] v.applier
-    pub applier_is : v.applier ≡ record { failed = false; applied = []; buffer = [] }
+    pub applier_is : v.applier ≡ record { first = 1; failed = false; applied = []; buffer = [] }
     pub outboxes : v.outboxes ≡ replicate (length v.config.peers) empty_outbox
 
   -- one more event was played, and its reply was added

@@ -1,5 +1,5 @@
 -- What a ledger keeps; nothing here need be believed.
-use Rattle.std.specs.Prelude.{ℕ, ◌≤◌, ◌≡◌, Bool, false, cond, List, Option, Some, None, is_some, length}
+use Rattle.std.specs.Prelude.{ℕ, ◌+◌, ◌≤◌, ◌≡◌, Bool, false, cond, List, Option, Some, None, is_some, length}
 use Rattle.std.specs.BTreeMap as tree
 use Rattle.std.specs.Option.{ForSome}
 use Rattle.std.specs.Ordering.{nat_cmp}
@@ -23,6 +23,7 @@ state_view failed s = record {
   local = s.local.value;
   driver = s.driver;
   peers = s.peers.items;
+  first = s.before + 1;
   failed = failed;
   journal = s.journal.items;
   decisions = s.decisions.items;
@@ -34,7 +35,7 @@ state_view failed s = record {
 -- what a ledger that hasn't failed keeps
 pub record IsSound {D : Type 0} (level : D → ℕ → List ℕ → Level) (place : D → ℕ → ℕ → ℕ → ℕ) (s : State D) : Type 0 where
   pub ledger : IsLedger (state_view false s)
-  pub window : IsWindow s.decisions.items s.window
+  pub window : IsWindow (s.before + 1) s.decisions.items s.window
   pub machines : HasMachines level place (state_view false s)
   pub few_peers : length s.peers.items ≤ 255
 
@@ -70,6 +71,7 @@ pub record KeepsRest {D : Type 0} (old new : State D) : Type 0 where
   pub local : new.local ≡ old.local
   pub driver : new.driver ≡ old.driver
   pub peers : new.peers ≡ old.peers
+  pub before : new.before ≡ old.before
   pub machines : new.machines ≡ old.machines
   pub asked : new.asked ≡ old.asked
 
@@ -78,6 +80,7 @@ pub record Leaves {D : Type 0} (old new : State D) : Type 0 where
   pub me : new.me ≡ old.me
   pub local : new.local ≡ old.local
   pub peers : new.peers ≡ old.peers
+  pub before : new.before ≡ old.before
   pub journal : new.journal.items ≡ old.journal.items
   pub decisions : new.decisions.items ≡ old.decisions.items
   pub asked : new.asked ≡ old.asked

@@ -14,9 +14,9 @@ pub record IsBounded (w : Window) : Type 0 where
   pub low : w.lowest ≤ 4294967296
   pub last : (slot : ℕ) → is_ahead w slot ≡ true → slot ≤ 4294967295
 
--- the lowest slot without a decision, and which slots from it on have one
-pub record IsWindow (decisions : List Decision) (w : Window) : Type 0 where
-  pub lowest : IsLowest decisions w.lowest
+-- the lowest slot from the first on without a decision, and which slots from it on have one
+pub record IsWindow (first : ℕ) (decisions : List Decision) (w : Window) : Type 0 where
+  pub lowest : IsLowest first decisions w.lowest
   pub ahead : (slot : ℕ) → w.lowest ≤ slot → is_ahead w slot ≡ is_decided slot decisions
   pub bounded : IsBounded w
 

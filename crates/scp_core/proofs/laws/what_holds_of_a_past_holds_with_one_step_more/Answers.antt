@@ -11,5 +11,6 @@ returns g c = steps_keep g.D.Driver.says (record {
   };
   stays = c.who_it_is_stays.ensures.config;
   journals = c.what_holds_of_a_ledger_holds_with_one_thing_more.ensures.journals;
+  grows = c.what_holds_of_a_ledger_holds_with_one_thing_more.ensures.grows;
   applies = c.what_holds_of_an_applier_holds_with_one_thing_more.ensures.passes;
 })

@@ -1,4 +1,4 @@
-use Rattle.std.proofs.Common.{◌≡◌, sym, ap, inl, inr}
+use Rattle.std.proofs.Common.{◌≡◌, ◌+◌, sym, ap, inl, inr}
 use Rattle.std.proofs.lemmas.Bool.{cases_lt}
 use Rattle.scp_ledger.specs.declared.journal.Decision.{Decision}
 use Rattle.scp_ledger.proofs.state.State.conclude.Goals as goal
@@ -12,4 +12,4 @@ decide-requires-clause-last g c = rw c.get.ensures.same (elim (cases_lt 42949672
 pub returns-clause-window : goal.returns-clause-window
 returns-clause-window g c =
     let slot : c.args.decision.slot ≡ c.get.result.now.slot = ap (λ (d : Decision). d.slot) (sym c.get.ensures.same) in
-    rw c.in_ok-add.ensures.decisions (c.in_ok-decide.ensures.window c.args.self.now.decisions.items c.args.decision slot c.requires.window)
+    rw c.in_ok-add.ensures.decisions (c.in_ok-decide.ensures.window (c.args.self.now.before + 1) c.args.self.now.decisions.items c.args.decision slot c.requires.window)

@@ -1,4 +1,4 @@
-use Rattle.std.proofs.Common.{◌≡◌, ◌++◌, ◌∙◌, ap, List}
+use Rattle.std.proofs.Common.{◌≡◌, ◌+◌, ◌++◌, ◌∙◌, ap, List}
 use Rattle.std.specs.Prelude.{Some, option_to_list, option_map}
 use Rattle.scp_ledger.specs.declared.journal.Fate.{Fate}
 use Rattle.scp_ledger.specs.inside.Entering.{entries_of}
@@ -17,7 +17,7 @@ returns-clause-sound g c =
     let out = c.in_ok-out.out in
     let fates = option_to_list c.entry_with-fate.result in
     let more = option_to_list (decision_of c.args.slot out.decided) in
-    on_ok3 c.settle.result (new.journal.items ≡ mid.journal.items ++ fates) (new.decisions.items ≡ mid.decisions.items ++ more) (IsWindow new.decisions.items new.window) (IsSound g.D.Driver.says.level g.D.Driver.says.place new)
+    on_ok3 c.settle.result (new.journal.items ≡ mid.journal.items ++ fates) (new.decisions.items ≡ mid.decisions.items ++ more) (IsWindow (new.before + 1) new.decisions.items new.window) (IsSound g.D.Driver.says.level g.D.Driver.says.place new)
     (λ journal decisions window. sound_ran g.D.Driver.says.level g.D.Driver.says.extracted g.D.Driver.says.combined g.D.Driver.says.place old mid new c.args.slot c.args.input out c.args.entering c.requires.sound c.requires.is_open c.in_ok-out.ensures.ran c.in_ok-out.ensures.same c.requires.entry c.requires.of_slot c.requires.room
     (journal ∙ ap (λ (fs : List Fate). mid.journal.items ++ fs) (c.entry_with-fate.ensures ∙ ap (entries_of c.args.entering) c.verdict_from-verdict.ensures)) decisions window c.settle.ensures.rest)
     c.settle.ensures.journal c.settle.ensures.decisions c.settle.ensures.window
