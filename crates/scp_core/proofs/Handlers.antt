@@ -3,6 +3,7 @@ use Rattle.std.proofs.Common.{◌≡◌, ◌≢◌, ◌+◌, ℕ, Bool, true, fa
 use Rattle.std.specs.Prelude.{◌↔◌, Option, Some, None, map, slice_get, slice_set, Result, Ok, Err, is_ok, OnOk, nat_lt, if◌then◌else◌}
 use Rattle.std.proofs.lemmas.Bool.{ltb-true, lt-ltb}
 use Rattle.scp_driver.specs.Driver.{Says}
+use Rattle.scp_types.specs.declared.fault.Fault.TheVariants as faults
 use Rattle.scp_types.specs.declared.names.NodeId.{NodeId}
 use Rattle.scp_wire.specs.declared.link.Inbound.{Inbound}
 use Rattle.scp_core.specs.declared.event.Event.{Event}
@@ -107,7 +108,7 @@ others_set (x ∷ xs) (suc l) (suc m) k2 ne = others_set xs l m k2 (λ e. ne (ap
 
 module _ {D : Type 0} where
   -- one item fewer waits at the link
-  one_more : (v : NodeView D) (l : ℕ) (k k2 : LinkView) (links : List LinkView) → slice_get v.links l ≡ Some k → room_in k2 ≡ room_in k + 1 → links ≡ slice_set v.links l k2 → LeavesRoom v (ReaderTake l) (record v { links = links; failed = true })
+  one_more : (v : NodeView D) (l : ℕ) (k k2 : LinkView) (links : List LinkView) → slice_get v.links l ≡ Some k → room_in k2 ≡ room_in k + 1 → links ≡ slice_set v.links l k2 → LeavesRoom v (ReaderTake l) (record v { links = links; failed = true; fault = Some faults.NoMemory })
   one_more v l k k2 links there more is =
       let now : slice_get links l ≡ Some k2 = ap (λ (xs : List LinkView). slice_get xs l) is ∙ there_set v.links l k k2 there in (
         ap room_of now ∙ more ∙ sym (ap (λ (o : Option LinkView). room_of o + 1) there),
@@ -116,7 +117,7 @@ module _ {D : Type 0} where
 
   -- a reader's take; if memory runs out the node fails
   abbrev failing : NodeView D → Reply → NodeView D
-  failing v NoMemory = record v { failed = true }
+  failing v NoMemory = record v { failed = true; fault = Some faults.NoMemory }
   failing v reply = v
 
 module _ {D : Type 0} (says : Says D) where
@@ -124,7 +125,7 @@ module _ {D : Type 0} (says : Says D) where
   read-at v l Blocked links k k2 r there d is = (r, (k, there, d.0), same v l k k2 links there d.1 is)
   read-at v l Idle links k k2 r there d is = (r, (k, there, (d.0, d.1)), same v l k k2 links there d.2 is)
   read-at v l Moved links k k2 r there d is = (r, (k, there, (d.0, d.1, d.2, d.3, here v l k2 _ links d.4 is)))
-  read-at v l NoMemory links k k2 r there d is = (record { was = r; failed = refl; keeps = record { config = refl; journal = refl; decisions = refl; asked = refl; command = refl; said = refl; applied = refl; lives = ap (map life_of) is ∙ lives_same v.links l k k2 there d.2 }; room = one_more v l k k2 links there d.3 is }, (k, there, (d.0, d.1)))
+  read-at v l NoMemory links k k2 r there d is = (record { was = r; failed = refl; keeps = record { config = refl; journal = refl; decisions = refl; asked = refl; command = refl; said = refl; applied = refl; lives = ap (map life_of) is ∙ lives_same v.links l k k2 there d.2 }; room = one_more v l k k2 links there d.3 is }, (k, there, (d.0, d.1)), refl)
   read-at v l reply links k k2 r there d is = absurd d
 
   pub read-step : (v : NodeView D) (l : ℕ) (reply : Reply) (links : List LinkView) → v.failed ≡ false → OnLinks Reads v.links l reply links → Step says v (ReaderTake l) reply (failing (with_links v links) reply)
@@ -142,7 +143,7 @@ module _ {D : Type 0} (says : Says D) where
   pub read-kept : (v : NodeView D) (l : ℕ) (reply : Reply) (links : List LinkView) → reply ≢ NoMemory → v.failed ≡ false → OnLinks Reads v.links l reply links → Step says v (ReaderTake l) reply (with_links v links)
   read-kept v l reply links ne r o = subst (λ (w : NodeView D). Step says v (ReaderTake l) reply w) (failing-not (with_links v links) reply ne) (read-step says v l reply links r o)
 
-  pub read-failed : (v w : NodeView D) (l : ℕ) (reply : Reply) (links : List LinkView) → reply ≡ NoMemory → v.failed ≡ false → OnLinks Reads v.links l reply links → w ≡ record v { links = links; failed = true } → Step says v (ReaderTake l) reply w
+  pub read-failed : (v w : NodeView D) (l : ℕ) (reply : Reply) (links : List LinkView) → reply ≡ NoMemory → v.failed ≡ false → OnLinks Reads v.links l reply links → w ≡ record v { links = links; failed = true; fault = Some faults.NoMemory } → Step says v (ReaderTake l) reply w
   read-failed v w l reply links e r o is = subst (λ (u : NodeView D). Step says v (ReaderTake l) reply u) (ap (failing (with_links v links)) e ∙ sym is) (read-step says v l reply links r o)
 
   put-at : (v : NodeView D) (l : ℕ) (full : Bool) (reply : Reply) (links : List LinkView) (k k2 : LinkView) → (full ≡ true → length v.inbox ≡ v.inbox_room) → v.failed ≡ false → slice_get v.links l ≡ Some k → Gives k full (Err reply) k2 → links ≡ slice_set v.links l k2 → Step says v (ReaderPut l) reply (with_links v links)
@@ -175,7 +176,7 @@ is_idle v thing none settled = λ me peers taken given p. (settled me peers take
 
 module _ {D : Type 0} where
   abbrev with_decider : NodeView D → DeciderView D → NodeView D
-  with_decider v d = record v { failed = d.failed; ledger = d.ledger; slot_hand = d.hand; last_command = d.last_command; last_said = d.last_said; decided = d.queue; decided_room = d.room; applier = d.applier }
+  with_decider v d = record v { failed = d.failed; fault = d.fault; ledger = d.ledger; slot_hand = d.hand; last_command = d.last_command; last_said = d.last_said; decided = d.queue; decided_room = d.room; applier = d.applier }
 
 isnt_empty : {X : Type 0} (x : X) (rest : List X) → x ∷ rest ≡ [] → ⊥
 isnt_empty x rest e = cc
@@ -225,8 +226,8 @@ module _ {D : Type 0} (says : Says D) where
       },
     ),
   )
-  slot-step v w d d2 x rest JournalFull e is runs empty q h = (slot-fails v w d d2 rest e is runs h.2, (empty, x, rest, q, h.0, ap (λ (u : NodeView D). length u.ledger.journal) e ∙ h.1))
-  slot-step v w d d2 x rest NoMemory e is runs empty q h = (slot-fails v w d d2 rest e is runs h.1, (empty, (λ none. isnt_empty x rest (sym q ∙ none)), λ fills. h.0 (subst (λ (y : Ready). adds_entry y ≡ true) (sym (same_first x fills.1 rest fills.2 (sym q ∙ fills.3))) fills.4, sym (ap (λ (u : NodeView D). length u.ledger.journal) e) ∙ fills.5)))
+  slot-step v w d d2 x rest JournalFull e is runs empty q h = (slot-fails v w d d2 rest e is runs h.2, (empty, x, rest, q, h.0, ap (λ (u : NodeView D). length u.ledger.journal) e ∙ h.1), ap (λ (u : NodeView D). u.fault) is ∙ h.3)
+  slot-step v w d d2 x rest NoMemory e is runs empty q h = (slot-fails v w d d2 rest e is runs h.1, (empty, (λ none. isnt_empty x rest (sym q ∙ none)), λ fills. h.0 (subst (λ (y : Ready). adds_entry y ≡ true) (sym (same_first x fills.1 rest fills.2 (sym q ∙ fills.3))) fills.4, sym (ap (λ (u : NodeView D). length u.ledger.journal) e) ∙ fills.5)), ap (λ (u : NodeView D). u.fault) is ∙ h.2)
   slot-step v w d d2 x rest reply e is runs empty q h = absurd h
 
   -- ---- the applier
@@ -250,7 +251,7 @@ module _ {D : Type 0} (says : Says D) where
 
   pub apply-refused : (v w : NodeView D) (d d2 : DeciderView D) (reply : Reply) → v ≡ with_decider v d → w ≡ with_decider v d2 → v.failed ≡ false → Applies d (Err reply) d2 → Step says v ApplyTake reply w
   apply-refused v w d d2 Idle e is runs h = (runs, ap (λ (u : NodeView D). u.decided) e ∙ h.0, is ∙ ap (with_decider v) h.1 ∙ sym e)
-  apply-refused v w d d2 NoMemory e is runs h = (fails_by v v w ApplyTake d d2 (λ same. same) e is refl refl runs h.1, λ none. h.0 (sym (ap (λ (u : NodeView D). u.decided) e) ∙ none))
+  apply-refused v w d d2 NoMemory e is runs h = (fails_by v v w ApplyTake d d2 (λ same. same) e is refl refl runs h.1, (λ none. h.0 (sym (ap (λ (u : NodeView D). u.decided) e) ∙ none)), ap (λ (u : NodeView D). u.fault) is ∙ h.2)
   apply-refused v w d d2 reply e is runs h = absurd h
 
 -- ---- a drain
@@ -266,7 +267,7 @@ gives_nothing old l new g = g.is ∙ ap (slice_set old l) g.gives.1 ∙ set_same
 module _ {D : Type 0} (says : Says D) where
   drain-step : (v : NodeView D) (l : ℕ) (reply : Reply) (boxes : List OutboxView) → v.failed ≡ false → Draws v.outboxes l reply boxes → Step says v (Drain l) reply (failing (with_outboxes v boxes) reply)
   drain-step v l (Sent bytes) boxes r d = (r, record { message = d.0; gives = d.1; spells = d.2; is = refl })
-  drain-step v l NoMemory boxes r d = (record { was = r; failed = refl; keeps = record { config = refl; journal = refl; decisions = refl; asked = refl; command = refl; said = refl; applied = refl; lives = refl }; room = λ k. refl }, (d.0, boxes, d.1))
+  drain-step v l NoMemory boxes r d = (record { was = r; failed = refl; keeps = record { config = refl; journal = refl; decisions = refl; asked = refl; command = refl; said = refl; applied = refl; lives = refl }; room = λ k. refl }, (d.0, boxes, d.1), refl)
   drain-step v l Idle boxes r d = (r, (d.before, d.there, (d.gives.0, refl)), ap (with_outboxes v) (gives_nothing v.outboxes l boxes d))
   drain-step v l NoLink boxes r d = (r, d.0, ap (with_outboxes v) d.1)
   drain-step v l reply boxes r d = absurd d
@@ -274,7 +275,7 @@ module _ {D : Type 0} (says : Says D) where
   pub drain-kept : (v : NodeView D) (l : ℕ) (reply : Reply) (boxes : List OutboxView) → reply ≢ NoMemory → v.failed ≡ false → Draws v.outboxes l reply boxes → Step says v (Drain l) reply (with_outboxes v boxes)
   drain-kept v l reply boxes ne r d = subst (λ (w : NodeView D). Step says v (Drain l) reply w) (failing-not (with_outboxes v boxes) reply ne) (drain-step v l reply boxes r d)
 
-  pub drain-failed : (v w : NodeView D) (l : ℕ) (reply : Reply) (boxes : List OutboxView) → reply ≡ NoMemory → v.failed ≡ false → Draws v.outboxes l reply boxes → w ≡ record v { outboxes = boxes; failed = true } → Step says v (Drain l) reply w
+  pub drain-failed : (v w : NodeView D) (l : ℕ) (reply : Reply) (boxes : List OutboxView) → reply ≡ NoMemory → v.failed ≡ false → Draws v.outboxes l reply boxes → w ≡ record v { outboxes = boxes; failed = true; fault = Some faults.NoMemory } → Step says v (Drain l) reply w
   drain-failed v w l reply boxes e r d is = subst (λ (u : NodeView D). Step says v (Drain l) reply u) (ap (failing (with_outboxes v boxes)) e ∙ sym is) (drain-step v l reply boxes r d)
 
 -- nothing is next at the link

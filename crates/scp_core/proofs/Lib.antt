@@ -12,6 +12,7 @@ pub mod Rooms
 pub mod Zipped
 pub mod Fitting
 pub mod Putting
+pub mod Faults
 pub mod Accounting
 pub mod Failing
 pub mod grounds

@@ -79,6 +79,7 @@ module _ {D : Type 0} (says : Says D) where
   starts : PassBy says → (v : NodeView D) → IsNew says v → Flows says nothing_heard v
   starts law v n = record {
     runs = n.runs;
+    whole = n.fault;
     rooms = (n.inbox.1, n.ready.1, n.decided.1);
     count = ap length n.links ∙ length-replicate' (length v.config.peers) (new_link v.config.capacities.link);
     apart = apart v.config.peers n.fit.apart;
@@ -106,6 +107,7 @@ module _ {D : Type 0} (says : Says D) where
   made_is v n = λ i. record {
     config = v.config;
     failed = n.runs i;
+    fault = n.fault i;
     links = n.links i;
     inbox = n.inbox.0 i;
     inbox_room = n.inbox.1 i;

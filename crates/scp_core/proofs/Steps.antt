@@ -81,6 +81,7 @@ module _ {D : Type 0} (says : Says D) where
   pub Flows-failed : (p : Past) (v : NodeView D) → Flows says p v → Flows says (record p { failed = true }) v
   Flows-failed p v f = record {
     runs = f.runs;
+    whole = f.whole;
     rooms = f.rooms;
     count = f.count;
     apart = f.apart;
@@ -110,6 +111,7 @@ module _ {D : Type 0} (says : Says D) where
       → Flows says p v → Flows says (record p { links = changed p.links l o2 }) (with_link v l k2)
   on-link p v l k o2 k2 there new same f = record {
     runs = f.runs;
+    whole = f.whole;
     rooms = f.rooms;
     count = length-set v.links l k2 ∙ f.count;
     apart = f.apart;
@@ -186,6 +188,7 @@ module _ {D : Type 0} (says : Says D) where
     Flows-local : (p : Past) (v : NodeView D) (x : Inbound) → ((peer : NodeId) → is_from peer x ≡ false) → Flows says p v → Flows says (record p { came = p.came ++ x ∷ [] }) (record v { inbox = v.inbox ++ x ∷ [] })
     Flows-local p v x none f = record {
       runs = f.runs;
+      whole = f.whole;
       rooms = f.rooms;
       count = f.count;
       apart = f.apart;
@@ -221,6 +224,7 @@ module _ {D : Type 0} (says : Says D) where
     pub Flows-outboxes : (p : Past) (v : NodeView D) (boxes : List OutboxView) → Flows says p v → Flows says p (record v { outboxes = boxes })
     Flows-outboxes p v boxes f = record {
       runs = f.runs;
+      whole = f.whole;
       rooms = f.rooms;
       count = f.count;
       apart = f.apart;
@@ -273,6 +277,7 @@ module _ {D : Type 0} (says : Says D) where
         of_peer-push peer p.came x false (from peer ∙ not_same at_l.0 peer other) ∙ append-nil (of_peer peer p.came) ∙ f.came m peer at) in
         record {
           runs = f.runs;
+          whole = f.whole;
           rooms = f.rooms;
           count = length-set v.links l (record k { hand = xs }) ∙ f.count;
           apart = f.apart;
@@ -301,6 +306,7 @@ module _ {D : Type 0} (says : Says D) where
     Flows-brings : (p : Past) (v : NodeView D) (thing : Ready) (after' : PendingView) → v.pend_hand ≡ None → ((me : NodeId) → (peers : List NodeId) → Passes (Pends me peers) [] (thing ∷ []) v.pending after') → after' ≡ record v.pending { leaving = after'.leaving } → Flows says p v → Flows says p (record v { pending = after'; pend_hand = Some thing })
     Flows-brings p v thing after' empty passes same f = record {
       runs = f.runs;
+      whole = f.whole;
       rooms = f.rooms;
       count = f.count;
       apart = f.apart;
@@ -329,6 +335,7 @@ module _ {D : Type 0} (says : Says D) where
         let one : Pends v.config.me v.config.peers (f.arrived ++ x ∷ []) f.given between = subst (λ (ys : List Ready). Pends v.config.me v.config.peers (f.arrived ++ x ∷ []) ys between) (append-nil f.given) (takes v.config.me v.config.peers f.arrived f.given f.pending) in
         record {
           runs = f.runs;
+          whole = f.whole;
           rooms = f.rooms;
           count = f.count;
           apart = f.apart;
@@ -354,6 +361,7 @@ module _ {D : Type 0} (says : Says D) where
     Flows-pend-put : (p : Past) (v : NodeView D) (x : Ready) → v.pend_hand ≡ Some x → Flows says p v → Flows says (moves p PendPut) (record v { pend_hand = None; ready = v.ready ++ x ∷ [] })
     Flows-pend-put p v x some f = record {
       runs = f.runs;
+      whole = f.whole;
       rooms = f.rooms;
       count = f.count;
       apart = f.apart;
@@ -379,6 +387,7 @@ module _ {D : Type 0} (says : Says D) where
     Flows-slot-take : (p : Past) (v : NodeView D) (x : Ready) (rest : List Ready) (after' : LedgerView D) (took : Took) → v.slot_hand ≡ None → v.ready ≡ x ∷ rest → TakesBy says v.ledger x took after' → IsLedger after' → RunsBy says after' → Flows says p v → Flows says (moves p SlotTake) (record v { ready = rest; ledger = after'; slot_hand = took.onward; last_command = took.command; last_said = said_in took.outgoing })
     Flows-slot-take p v x rest after' took empty queue takes known running f = record {
       runs = f.runs;
+      whole = f.whole;
       rooms = f.rooms;
       count = f.count;
       apart = f.apart;
@@ -404,6 +413,7 @@ module _ {D : Type 0} (says : Says D) where
     Flows-slot-put : (p : Past) (v : NodeView D) (x : Onward) → v.slot_hand ≡ Some x → Flows says p v → Flows says (moves p SlotPut) (record v { slot_hand = None; decided = v.decided ++ x ∷ [] })
     Flows-slot-put p v x some f = record {
       runs = f.runs;
+      whole = f.whole;
       rooms = f.rooms;
       count = f.count;
       apart = f.apart;
@@ -429,6 +439,7 @@ module _ {D : Type 0} (says : Says D) where
     Flows-apply-take : (p : Past) (v : NodeView D) (x : Onward) (rest : List Onward) (after' : ApplierView) (answer : Option (ℕ × Message)) → v.decided ≡ x ∷ rest → ApplierTakes v.applier x answer after' → IsApplier after' → IsRunning after' → Flows says p v → Flows says (moves p ApplyTake) (record v { decided = rest; applier = after' })
     Flows-apply-take p v x rest after' answer queue takes known running f = record {
       runs = f.runs;
+      whole = f.whole;
       rooms = f.rooms;
       count = f.count;
       apart = f.apart;

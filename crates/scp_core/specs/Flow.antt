@@ -1,5 +1,5 @@
 -- A running node and its past: each queue and each hand has what was put there and not taken.
-use Rattle.std.specs.Prelude.{ℕ, ◌+◌, ◌≤◌, ◌≡◌, false, List, ◌++◌, Option, Some, length, slice_get, option_to_list, take, drop}
+use Rattle.std.specs.Prelude.{ℕ, ◌+◌, ◌≤◌, ◌≡◌, false, List, ◌++◌, Option, Some, None, length, slice_get, option_to_list, take, drop}
 use Rattle.scp_driver.specs.Driver.{Says}
 use Rattle.scp_types.specs.declared.names.NodeId.{NodeId}
 use Rattle.scp_wire.specs.declared.link.Inbound.{Inbound}
@@ -33,6 +33,7 @@ module _ {D : Type 0} (says : Says D) where
   -- Of a node that runs: each queue and hand has what was put there and not taken, and each stage is, for what it took, as its own contract says.
   pub record Flows (p : Past) (v : NodeView D) : Type 0 where
     pub runs : v.failed ≡ false
+    pub whole : v.fault ≡ None
     pub rooms : (v.inbox_room ≡ v.config.capacities.inbox) × (v.ready_room ≡ v.config.capacities.ready) × (v.decided_room ≡ v.config.capacities.decided)
     -- one link for each peer, and no peer twice
     pub count : length v.links ≡ length v.config.peers

@@ -3,6 +3,8 @@ use Rattle.std.specs.Prelude.{ℕ, ◌+◌, ◌-◌, ◌<◌, ◌≡◌, ◌≢�
 use Rattle.scp_driver.specs.Driver.{Says}
 use Rattle.scp_ledger.specs.declared.journal.TheConstants.{JOURNAL_LIMIT}
 use Rattle.scp_types.specs.declared.limits.TheConstants.{LIFE_LIMIT}
+use Rattle.scp_types.specs.declared.fault.Fault.{Fault}
+use Rattle.scp_types.specs.declared.fault.Fault.TheVariants as faults
 use Rattle.scp_types.specs.declared.names.NodeId.{NodeId}
 use Rattle.scp_envelope.specs.declared.statement.Envelope.{Envelope}
 use Rattle.scp_wire.specs.declared.message.Message.{Message}
@@ -54,11 +56,12 @@ pub record LinkView : Type 0 where
 abbrev pub new_link : ℕ → LinkView
 new_link room = record { life = 0; is_open = false; queue = []; room = room; reader = unread; hand = [] }
 
--- what contracts see of a node: its configuration, whether it failed, its links, its stages, and the queue and the hand between any two of
+-- what contracts see of a node: its configuration, whether and why it failed, its links, its stages, and the queue and the hand between any two of
 -- them
 pub record NodeView (D : Type 0) : Type 0 where
   pub config : Config
   pub failed : Bool
+  pub fault : Option Fault  -- why it failed, if it did
   pub links : List LinkView
   pub inbox : List Inbound
   pub inbox_room : ℕ
@@ -341,9 +344,20 @@ module _ {D : Type 0} (says : Says D) where
   Step old event Accepted new = (old.failed ≡ false) × Accepts old event new
   Step old event Moved new = (old.failed ≡ false) × Moves says old event new
   Step old event (Sent bytes) new = (old.failed ≡ false) × SendsOut old event bytes new
-  Step old event JournalFull new = Fails old event new × FillsJournal old event
-  Step old event NoMemory new = Fails old event new × TakesMemory old event
+  Step old event JournalFull new = Fails old event new × FillsJournal old event × (new.fault ≡ Some faults.JournalFull)
+  Step old event NoMemory new = Fails old event new × TakesMemory old event × (new.fault ≡ Some faults.NoMemory)
   Step old event reply new = (old.failed ≡ false) × Refuses old event reply × (new ≡ old)
+
+-- why a node failed, after a step with this reply
+abbrev pub fault_after : Reply → Option Fault → Option Fault
+fault_after JournalFull before = Some faults.JournalFull
+fault_after NoMemory before = Some faults.NoMemory
+fault_after reply before = before
+
+module _ {D : Type 0} (says : Says D) where
+  -- a step leaves why the node failed, or is the one that failed it
+  abbrev pub StepsSayWhy : Type 0
+  StepsSayWhy = (old new : NodeView D) (event : Event) (reply : Reply) → Step says old event reply new → new.fault ≡ fault_after reply old.fault
 
 -- how often a link was opened; 0 for a link that isn't there
 abbrev pub lives_of : Option LinkView → ℕ

@@ -19,6 +19,7 @@ module _ {D : Type 0} where
   begun driver c first = record {
     config = c;
     failed = false;
+    fault = None;
     links = replicate (length c.peers) (new_link c.capacities.link);
     inbox = [];
     inbox_room = c.capacities.inbox;

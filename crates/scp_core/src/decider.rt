@@ -1,5 +1,5 @@
 //! The slot stage, the queue after it, and the applier.
-ghost use Rattle.std.specs.Prelude.{◌≡◌, ◌≢◌, ◌≤◌, ◌∷◌, [], ◌<◌, false, true, length, None, Some, IfOk, IfSome, IsOkUnless, option_copied, slice_get, if◌then◌else◌};
+ghost use Rattle.std.specs.Prelude.{◌≡◌, ◌≢◌, ◌≤◌, ◌∷◌, [], ◌<◌, false, true, length, None, Some, is_some, IfOk, IfSome, IsOkUnless, option_copied, slice_get, if◌then◌else◌};
 ghost use Rattle.scp_wire.specs.Fitting.{IsFitting};
 ghost use Rattle.scp_apply.specs.Applied.{made_of, value_of};
 ghost use Rattle.scp_core.specs.inside.Decider.{new_decider, Decides, Applies, PutsOn, fail as failed_now};
@@ -31,7 +31,8 @@ use std::sync::Arc;
 /// hand. So the applier can take what is next.
 #[derive(Drop)]
 pub struct Decider<A: Application + Drop + Copy> {
-    failed: bool,
+    /// Why it failed, if it did.
+    failed: Option<Fault>,
     stage: SlotStage<A>,
     hand: Option<Onward>,
     last_command: Option<CommandFate>,
@@ -51,9 +52,9 @@ impl<A: Application + Drop + Copy> Model for Decider<A> {
 
     ghost coded = { Prim.hlevel (codes, A.code, machine_code A.code, coded_row coded_level) };
 
-    ghost view = { λ a. record { failed = a.failed; ledger = a.stage; hand = a.hand; last_command = a.last_command; last_said = a.last_said; queue = a.queue.items; room = a.queue.capacity; applier = a.applier } };
+    ghost view = { λ a. record { failed = is_some a.failed; fault = a.failed; ledger = a.stage; hand = a.hand; last_command = a.last_command; last_said = a.last_said; queue = a.queue.items; room = a.queue.capacity; applier = a.applier } };
 
-    ghost invariant = { λ a. IsWell A.says (record { failed = a.failed; ledger = a.stage; hand = a.hand; last_command = a.last_command; last_said = a.last_said; queue = a.queue.items; room = a.queue.capacity; applier = a.applier }) };
+    ghost invariant = { λ a. IsWell A.says (record { failed = is_some a.failed; fault = a.failed; ledger = a.stage; hand = a.hand; last_command = a.last_command; last_said = a.last_said; queue = a.queue.items; room = a.queue.capacity; applier = a.applier }) };
 }
 
 impl<A: Application + Drop + Copy> Decider<A> {
@@ -71,7 +72,7 @@ impl<A: Application + Drop + Copy> Decider<A> {
         ensures only_memory { IsOkUnless result Fault.NoMemory }
     {
         Ok(Decider {
-            failed: false,
+            failed: None,
             stage: SlotStage::new(alloc, me, set, application, peers),
             hand: None,
             last_command: None,
@@ -83,6 +84,13 @@ impl<A: Application + Drop + Copy> Decider<A> {
 
     pub fn has_failed(&self) -> bool
         ensures { result ≡ self.now.failed }
+    {
+        self.failed.is_some()
+    }
+
+    /// Why it failed, if it did.
+    pub fn why_failed(&self) -> Option<Fault>
+        ensures { result ≡ self.now.fault }
     {
         self.failed
     }
@@ -157,17 +165,17 @@ impl<A: Application + Drop + Copy> Decider<A> {
     pub fn state(&self) -> Option<&A::State>
         ensures { option_copied result ≡ (if self.now.failed then None else Some (made_of A.first A.after self.now.applier.applied)) }
     {
-        if self.failed {
+        if self.failed.is_some() {
             return None;
         }
         self.applier.state()
     }
 
-    /// Marks it as failed from now on.
+    /// Marks it as failed from now on, out of memory.
     pub fn fail(&mut self)
         ensures { self.new ≡ failed_now self.old }
     {
-        self.failed = true;
+        self.failed = Some(Fault::NoMemory);
     }
 
     /// The slot stage takes a ready thing, and what goes out to peers is put into the outboxes.
@@ -185,11 +193,11 @@ impl<A: Application + Drop + Copy> Decider<A> {
                 Reply::Moved
             }
             Err(Fault::JournalFull) => {
-                self.failed = true;
+                self.failed = Some(Fault::JournalFull);
                 Reply::JournalFull
             }
             Err(_) => {
-                self.failed = true;
+                self.failed = Some(Fault::NoMemory);
                 Reply::NoMemory
             }
         }
@@ -225,7 +233,7 @@ impl<A: Application + Drop + Copy> Decider<A> {
         match self.applier.take(onward) {
             Ok(answer) => Ok(answer),
             Err(_) => {
-                self.failed = true;
+                self.failed = Some(Fault::NoMemory);
                 Err(Stop::NoMemory)
             }
         }

@@ -1,4 +1,5 @@
 //! Laws of the definitions, each the contract of a function that does nothing: what follows from the ledger theorem.
+ghost use Rattle.scp_core.specs.Node.{StepsSayWhy};
 ghost use Rattle.scp_core.specs.Theorem.{StepsKeep};
 ghost use Rattle.scp_core.specs.Ledger.{TheoremGivesLedger};
 ghost use Rattle.scp_core.specs.Headline.{LedgerGivesHeadline};
@@ -60,6 +61,11 @@ pub fn each_node_holds_its_headline<D: Driver + Drop + Copy>()
 {
     what_keeps_the_ledger_keeps_the_headline::<D>();
 }
+
+/// Each step leaves why the node failed as it was, or is the one that failed it, and says why.
+pub fn each_step_says_why_it_failed<D: Driver + Drop + Copy>()
+    ensures why { StepsSayWhy D.says }
+{}
 
 /// When the pending stage answers Idle, nothing is ready, and the head of each lane that it holds is an envelope that waits for its quorum set.
 pub fn what_is_idle_is_settled<D: Driver + Drop + Copy>()

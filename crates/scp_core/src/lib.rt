@@ -31,7 +31,7 @@ mod stop;
 pub use config::{Capacities, Config, Peers};
 pub use event::{Event, Reply};
 pub use laws::{
-    each_node_holds_its_headline, each_node_holds_its_ledger,
+    each_node_holds_its_headline, each_node_holds_its_ledger, each_step_says_why_it_failed,
     queues_hold_what_was_put_and_not_taken, what_holds_of_a_past_holds_with_one_step_more,
     what_is_handed_out_is_put, what_is_idle_is_settled, what_two_runs_reply_is_the_same,
     whatever_is_replied_fits,

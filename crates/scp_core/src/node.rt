@@ -1,12 +1,12 @@
 //! A node: one event is one step of one stage.
-ghost use Rattle.std.specs.Prelude.{◌≡◌, ◌≢◌, ◌∷◌, [], ◌++◌, ◌-◌, ◌<◌, ◌≤◌, ◌⊎◌, ◌↔◌, ℕ, List, length, drop, Some, None, IsSome, false, true, IfOk, OnOk, OnErr, IfErr, IsOkUnless, Ok, Err, IsTrue, slice_get, option_copied, if◌then◌else◌, MatchOption};
+ghost use Rattle.std.specs.Prelude.{◌≡◌, ◌≢◌, ◌∷◌, [], ◌++◌, ◌-◌, ◌<◌, ◌≤◌, ◌⊎◌, ◌↔◌, ℕ, List, length, drop, Some, None, is_some, IsSome, false, true, IfOk, OnOk, OnErr, IfErr, IsOkUnless, Ok, Err, IsTrue, slice_get, option_copied, if◌then◌else◌, MatchOption};
 ghost use Rattle.scp_ledger.specs.declared.journal.Fate.{Fate};
 ghost use Rattle.scp_pending.specs.Line.{count_held};
 ghost use Rattle.scp_timers.specs.Timers.{AreTimers};
 ghost use Rattle.scp_apply.specs.Applied.{made_of, value_of};
 ghost use Rattle.scp_core.specs.Config.{IsConfig, IsFit};
 ghost use Rattle.scp_core.specs.History.{peer_at, Exchange};
-ghost use Rattle.scp_core.specs.Node.{Step, Keeps, LeavesRoom, HasLink, lives_at, room_at, queued_at, accepts_at, item_at, has_read_at};
+ghost use Rattle.scp_core.specs.Node.{Step, Keeps, LeavesRoom, fault_after, HasLink, lives_at, room_at, queued_at, accepts_at, item_at, has_read_at};
 ghost use Rattle.scp_outboxes.specs.Handing.{waiting_at, overwritten_at};
 ghost use Rattle.scp_core.specs.Theorem.{LedgerTheorem};
 ghost use Rattle.scp_core.specs.inside.Starting.{IsNew};
@@ -66,6 +66,7 @@ impl<A: Application + Drop + Copy> Model for Node<A> {
     ghost view = { λ a. record {
       config = record { me = a.me; set = a.set.value; peers = a.peers; capacities = a.capacities };
       failed = a.decider.failed;
+      fault = a.decider.fault;
       links = a.links.items;
       inbox = a.inbox.items;
       inbox_room = a.inbox.capacity;
@@ -384,6 +385,14 @@ impl<A: Application + Drop + Copy> Node<A> {
         self.decider.has_failed()
     }
 
+    /// Why it failed, if it did: `JournalFull` if a step found its journal full, otherwise `NoMemory`.
+    pub fn why_failed(&self) -> Option<Fault>
+        ensures same { result ≡ self.now.fault }
+        ensures failed { is_some result ≡ self.now.failed }
+    {
+        self.decider.why_failed()
+    }
+
     /// How many messages of the connection the pending stage holds: those that are ready, and those that are parked.
     pub fn parked(&self, conn: &ConnId) -> usize
         ensures { result ≡ count_held conn.now self.now.pending }
@@ -406,6 +415,8 @@ impl<A: Application + Drop + Copy> Node<A> {
         // A node that fails keeps its journal, its decisions, the links it asked, what is applied, and how often each link was opened.
         ensures kept { (result ≡ Reply.NoMemory) ⊎ (result ≡ Reply.JournalFull) → Keeps self.old self.new }
         ensures fails { (result ≡ Reply.NoMemory) ⊎ (result ≡ Reply.JournalFull) → self.new.failed ≡ true }
+        // Why it failed is kept.
+        ensures why { self.new.fault ≡ fault_after result self.old.fault }
         // Each link's room is then what it was, plus one if its reader took an item.
         ensures room { (result ≡ Reply.NoMemory) ⊎ (result ≡ Reply.JournalFull) → LeavesRoom self.old event self.new }
         // A failed node answers `Failed`, and no other node does.

@@ -1,6 +1,6 @@
 -- An episode is the event's step, and what follows.
-use Rattle.std.proofs.Common.{◌≡◌, ◌≢◌, Bool, true, false, List, [], ◌∷◌, ◌++◌, refl, sym, ◌∙◌, ap, subst, append-nil, arith}
-use Rattle.std.specs.Prelude.{Result, Ok, Err, IfOk, OnOk, IsErrOf, ◌↔◌, ◌||◌}
+use Rattle.std.proofs.Common.{◌≡◌, ◌≢◌, Bool, true, false, List, [], ◌∷◌, ◌++◌, refl, sym, ◌∙◌, ap, subst, append-nil}
+use Rattle.std.specs.Prelude.{Result, Ok, Err, IfOk, OnOk, IsErrOf, ◌↔◌, None}
 use Rattle.std.proofs.lemmas.Result.{on_ok_weaker}
 use Rattle.std.proofs.lemmas.Grind.{flat_map-append}
 use Rattle.scp_driver.specs.Driver.{Says}
@@ -12,19 +12,19 @@ use Rattle.scp_core.specs.declared.event.Reply.{Reply}
 use Rattle.scp_core.specs.declared.event.Reply.TheVariants as reply
 use Rattle.scp_core.specs.History.{Exchange}
 use Rattle.scp_wire.specs.declared.link.Bytes.{Bytes}
-use Rattle.scp_core.specs.Node.{NodeView, SendsOut, Step, TakesMemory}
+use Rattle.scp_core.specs.Node.{NodeView, SendsOut, Step, StepsSayWhy, TakesMemory}
 use Rattle.scp_core.specs.Theorem.{LedgerTheorem}
 use Rattle.scp_turn.specs.Turn.{Goes, Does, links_of}
 use Rattle.scp_turn.specs.Watch.{Noting, Watched}
 use Rattle.scp_turn.specs.Rest.{Rests}
-use Rattle.scp_episode.specs.declared.resting.Fullness.{Fullness}
 use Rattle.scp_episode.specs.declared.playing.Played.{Played}
-use Rattle.scp_episode.specs.inside.Fullness.{notes_full}
+use Rattle.scp_episode.specs.inside.Cause.{cause_of}
 use Rattle.scp_episode.specs.declared.sending.Sending.{Sending}
 use Rattle.scp_episode.specs.Episode.{IsOfHost, IsEpisode, FollowsOn, drains_of, sent_by, sent_in, is_full_reply, finds_full}
 use Rattle.scp_episode.specs.inside.Draining.{Drained, GoesDraws, GoesFollowed}
 use Rattle.scp_episode.proofs.Going.{Saying, goes_nothing, goes_one, goes_as, goes_then, watched_one, watched_on}
-use Rattle.scp_episode.proofs.Quiet.{RestsWatched, remembers, rest_sends_none, host_sends_none}
+use Rattle.scp_episode.proofs.Causes.{clash, fell, cause_told}
+use Rattle.scp_episode.proofs.Quiet.{RestsWatched, rest_sends_none, host_sends_none}
 
 module _ {D : Type 0} (says : Says D) where
   -- what follows of an event with this reply, with what was sent
@@ -36,14 +36,6 @@ module _ {D : Type 0} (says : Says D) where
     record { calm = calm; rested = m; turns = x; drains = y; split = refl; rests = r; does = does; all = d.events_are; sent = d.sent },
     d.added ∙ ap (λ (l : List Sending). before ++ l) (sym (flat_map-append (λ (e : Exchange). sent_by e.0 e.1) x y ∙ ap (λ (l : List Sending). l ++ sent_in y) (rest_sends_none says calm a m x r))),
   )
-
-  -- where who watched remembers it, the journal was found full
-  full_of : (heard : List Exchange) (w z : Fullness) (a b : NodeView D) → w.is_full ≡ false → Watched says notes_full 1 w a heard b z → z.is_full ≡ finds_full heard
-  full_of heard w z a b start p = remembers says heard w z a b p ∙ ap (λ (c : Bool). finds_full heard || c) start ∙ or_false (finds_full heard)
-    where
-      or_false : (c : Bool) → (c || false) ≡ c
-      or_false true = refl
-      or_false false = refl
 
   -- what follows, as a watch was shown it
   abbrev pub Follow : {W : Type 0} → Noting D W → Result (Unit {0}) Fault → Reply → W → List Sending → List Sending → W → Saying D
@@ -179,54 +171,47 @@ module _ {D : Type 0} (says : Says D) where
   IsPlayed r e a heard b = IfOk r (λ played. IsEpisode says e played.reply a heard b × (played.sent.items ≡ sent_in heard))
 
   -- and a watch was shown it
-  abbrev pub GoesWatched : {W : Type 0} → Noting D W → Result Played Fault → Event → W → NodeView D → NodeView D → W → Type 0
-  GoesWatched {W} Note r e w old new z = Goes says old new (λ a heard b. IsPlayed r e a heard b × Watched says Note 1 w a heard b z)
+  abbrev pub GoesSteps : {W : Type 0} → Noting D W → Result Played Fault → Event → W → NodeView D → NodeView D → W → Type 0
+  GoesSteps {W} Note r e w old new z = Goes says old new (λ a heard b. IsPlayed r e a heard b × Watched says Note 1 w a heard b z)
 
   -- and a full journal is reported exactly if one was found
+  abbrev pub GoesWatched : {W : Type 0} → Noting D W → Result Played Fault → Event → W → NodeView D → NodeView D → W → Type 0
+  GoesWatched {W} Note r e w old new z = Goes says old new (λ a heard b. IsPlayed r e a heard b × Watched says Note 1 w a heard b z × (IsErrOf r JournalFull ↔ (finds_full heard ≡ true)))
+
+  -- of an event that nobody watched
   abbrev pub GoesPlayed : Result Played Fault → Event → NodeView D → NodeView D → Type 0
   GoesPlayed r e old new = Goes says old new (λ a heard b. IsPlayed r e a heard b × (IsErrOf r JournalFull ↔ (finds_full heard ≡ true)))
 
+  pub unwatched : {W : Type 0} (Note : Noting D W) (r : Result Played Fault) (e : Event) (w z : W) (a b : NodeView D) → GoesWatched Note r e w a b z → GoesPlayed r e a b
+  unwatched Note r e w z a b g =
+      goes_as says a b (λ o heard n. IsPlayed r e o heard n × Watched says Note 1 w o heard n z × (IsErrOf r JournalFull ↔ (finds_full heard ≡ true))) (λ o heard n. IsPlayed r e o heard n × (IsErrOf r JournalFull ↔ (finds_full heard ≡ true)))
+      (λ heard does p. (p.0, p.2)) g
+
   -- a node that had failed hears nothing
   pub had_failed : {W : Type 0} (Note : Noting D W) (e : Event) (w : W) (a : NodeView D) → GoesWatched Note (Err Failed) e w a a w
-  had_failed Note e w a = goes_nothing says a (λ o heard n. IsPlayed (Err Failed) e o heard n × Watched says Note 1 w o heard n w) (tt, (refl, refl))
-
-  pub nothing_played : (e : Event) (a : NodeView D) → GoesPlayed (Err Failed) e a a
-  nothing_played e a = goes_nothing says a (λ o heard n. IsPlayed (Err Failed) e o heard n × (IsErrOf {T = Played} {E = Fault} (Err Failed) JournalFull ↔ (finds_full heard ≡ true))) (tt, (λ is. absurd cc, λ found. absurd cc))
+  had_failed Note e w a = goes_nothing says a (λ o heard n. IsPlayed (Err Failed) e o heard n × Watched says Note 1 w o heard n w × (IsErrOf {T = Played} {E = Fault} (Err Failed) JournalFull ↔ (finds_full heard ≡ true))) (tt, (refl, refl), (λ is. absurd cc, λ found. let none : false ≡ true = found in absurd cc))
 
   -- the event's step, and then what follows
-  steps_then : {W : Type 0} (Note : Noting D W) (s : Result (Unit {0}) Fault) (t : Result Played Fault) (e : Event) (r : Reply) (w v z : W) (a m b : NodeView D) (before after' : List Sending) → Step says a e r m → ((past : List Exchange) → LedgerTheorem says past a → LedgerTheorem says (past ++ (e, r) ∷ []) m) → Note w 1 e r a m v → ((y : List Exchange) → OnOk s (FollowsOn says r m y b × (after' ≡ before ++ sent_in y)) → IsPlayed t e a ((e, r) ∷ y) b) → GoesFollowed says Note s r v m b before after' z → GoesWatched Note t e w a b z
+  steps_then : {W : Type 0} (Note : Noting D W) (s : Result (Unit {0}) Fault) (t : Result Played Fault) (e : Event) (r : Reply) (w v z : W) (a m b : NodeView D) (before after' : List Sending) → Step says a e r m → ((past : List Exchange) → LedgerTheorem says past a → LedgerTheorem says (past ++ (e, r) ∷ []) m) → Note w 1 e r a m v → ((y : List Exchange) → OnOk s (FollowsOn says r m y b × (after' ≡ before ++ sent_in y)) → IsPlayed t e a ((e, r) ∷ y) b) → GoesFollowed says Note s r v m b before after' z → GoesSteps Note t e w a b z
   steps_then Note s t e r w v z a m b before after' step theorem note all g =
       goes_then says a m b (λ o heard n. (heard ≡ (e, r) ∷ []) × Watched says Note 1 w o heard n v) (Follow Note s r v before after' z) (λ o heard n. IsPlayed t e o heard n × Watched says Note 1 w o heard n z)
       (λ x y dx dy p q. (subst (λ (l : List Exchange). IsPlayed t e a (l ++ y) b) (sym p.0) (all y q.0), watched_on says Note w v z a m b x y p.1 q.1))
       (goes_one says a m e r (λ o heard n. (heard ≡ (e, r) ∷ []) × Watched says Note 1 w o heard n v) step theorem (refl, watched_one says Note w v a m e r step note)) g
 
   -- it was refused after the event's step
-  pub refused : {W : Type 0} (Note : Noting D W) (e : Event) (r : Reply) (w v z : W) (a m b : NodeView D) (f : Fault) (before after' : List Sending) → Step says a e r m → ((past : List Exchange) → LedgerTheorem says past a → LedgerTheorem says (past ++ (e, r) ∷ []) m) → Note w 1 e r a m v → GoesFollowed says Note (Err f) r v m b before after' z → GoesWatched Note (Err f) e w a b z
-  refused Note e r w v z a m b f before after' step theorem note g = steps_then Note (Err f) (Err f) e r w v z a m b before after' step theorem note (λ y q. tt) g
+  pub refused : {W : Type 0} (Note : Noting D W) (s : Result (Unit {0}) Fault) (e : Event) (r : Reply) (w v z : W) (a m b : NodeView D) (before after' : List Sending) → StepsSayWhy says → a.fault ≡ None → Step says a e r m → ((past : List Exchange) → LedgerTheorem says past a → LedgerTheorem says (past ++ (e, r) ∷ []) m) → Note w 1 e r a m v → GoesFollowed says Note s r v m b before after' z → GoesWatched Note (Err (cause_of b.fault)) e w a b z
+  refused Note s e r w v z a m b before after' why none step theorem note g =
+      let told : Result Played Fault = Err (cause_of b.fault) in
+      goes_as says a b (λ o heard n. IsPlayed told e o heard n × Watched says Note 1 w o heard n z) (λ o heard n. IsPlayed told e o heard n × Watched says Note 1 w o heard n z × (IsErrOf told JournalFull ↔ (finds_full heard ≡ true)))
+      (λ heard does p. (p.0, p.1, cause_told says why heard a b none does)) (steps_then Note s told e r w v z a m b before after' step theorem note (λ y q. tt) g)
 
   -- the event's step and what follows are an episode
-  pub plays : {W : Type 0} (Note : Noting D W) (e : Event) (r : Reply) (w v z : W) (a m b : NodeView D) (played : Played) → played.reply ≡ r → IsOfHost e → Step says a e r m → ((past : List Exchange) → LedgerTheorem says past a → LedgerTheorem says (past ++ (e, r) ∷ []) m) → Note w 1 e r a m v → GoesFollowed says Note (Ok tt) r v m b [] played.sent.items z → GoesWatched Note (Ok played) e w a b z
-  plays Note e r w v z a m b played same host step theorem note g =
-      steps_then Note (Ok tt) (Ok played) e r w v z a m b [] played.sent.items step theorem note
+  pub plays : {W : Type 0} (Note : Noting D W) (e : Event) (r : Reply) (w v z : W) (a m b : NodeView D) (played : Played) → played.reply ≡ r → IsOfHost e → b.failed ≡ false → Step says a e r m → ((past : List Exchange) → LedgerTheorem says past a → LedgerTheorem says (past ++ (e, r) ∷ []) m) → Note w 1 e r a m v → GoesFollowed says Note (Ok tt) r v m b [] played.sent.items z → GoesWatched Note (Ok played) e w a b z
+  plays Note e r w v z a m b played same host runs step theorem note g =
+      goes_as says a b (λ o heard n. IsPlayed (Ok played) e o heard n × Watched says Note 1 w o heard n z) (λ o heard n. IsPlayed (Ok played) e o heard n × Watched says Note 1 w o heard n z × (IsErrOf {T = Played} {E = Fault} (Ok played) JournalFull ↔ (finds_full heard ≡ true)))
+      (λ heard does p. (p.0, p.1, (λ is. absurd cc, λ found. absurd (clash b.failed runs (fell says heard a b does found)))))
+      (steps_then Note (Ok tt) (Ok played) e r w v z a m b [] played.sent.items step theorem note
       (λ y q. (
         subst (λ (x : Reply). IsEpisode says e x a ((e, r) ∷ y) b) (sym same) (record { stepped = m; rest = y; is = refl; step = step; follows = q.0 }),
         q.1 ∙ ap (λ (l : List Sending). l ++ sent_in y) (sym (host_sends_none e r host)),
-      )) g
-
-  -- a full journal was found, and that is reported
-  pub found_full : (r : Result Played Fault) (e : Event) (a b : NodeView D) (w z : Fullness) → w.is_full ≡ false → z.is_full ≡ true → GoesWatched notes_full r e w a b z → GoesPlayed (Err JournalFull) e a b
-  found_full r e a b w z start full g =
-      goes_as says a b (λ o heard n. IsPlayed r e o heard n × Watched says notes_full 1 w o heard n z) (λ o heard n. IsPlayed (Err JournalFull) e o heard n × (IsErrOf {T = Played} {E = Fault} (Err JournalFull) JournalFull ↔ (finds_full heard ≡ true)))
-      (λ heard does p. (tt, (λ is. sym (full_of heard w z a b start p.1) ∙ full, λ found. refl))) g
-
-  -- no full journal was found, and none is reported
-  pub full_nowhere : (r : Result Played Fault) (e : Event) (a b : NodeView D) (w z : Fullness) → w.is_full ≡ false → z.is_full ≡ false → (IsErrOf r JournalFull → ⊥) → GoesWatched notes_full r e w a b z → GoesPlayed r e a b
-  full_nowhere r e a b w z start full none g =
-      goes_as says a b (λ o heard n. IsPlayed r e o heard n × Watched says notes_full 1 w o heard n z) (λ o heard n. IsPlayed r e o heard n × (IsErrOf r JournalFull ↔ (finds_full heard ≡ true)))
-      (λ heard does p. (p.0, (λ is. absurd (none is), λ found. let q : true ≡ false = sym found ∙ sym (full_of heard w z a b start p.1) ∙ full in absurd cc))) g
-
-  -- it was refused for another reason
-  pub told_as : (f : Fault) (r : Result Played Fault) (e : Event) (a b : NodeView D) (w z : Fullness) → w.is_full ≡ false → z.is_full ≡ false → (f ≡ JournalFull → ⊥) → GoesWatched notes_full r e w a b z → GoesPlayed (Err f) e a b
-  told_as f r e a b w z start full other g =
-      goes_as says a b (λ o heard n. IsPlayed r e o heard n × Watched says notes_full 1 w o heard n z) (λ o heard n. IsPlayed (Err f) e o heard n × (IsErrOf {T = Played} {E = Fault} (Err f) JournalFull ↔ (finds_full heard ≡ true)))
-      (λ heard does p. (tt, (λ is. let same : f ≡ JournalFull = cc in absurd (other same), λ found. let q : true ≡ false = sym found ∙ sym (full_of heard w z a b start p.1) ∙ full in absurd cc))) g
+      )) g)

@@ -1,4 +1,5 @@
 pub mod Going
 pub mod Draws
 pub mod Quiet
+pub mod Causes
 pub mod Episodes

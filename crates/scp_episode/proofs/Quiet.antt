@@ -1,6 +1,6 @@
--- A node comes to rest: it sends nothing, and who watches remembers whether the journal was full.
+-- A node comes to rest: it sends nothing.
 use Rattle.std.proofs.Common.{◌≡◌, ◌<◌, ◌+◌, ℕ, zero, suc, Bool, true, false, List, [], ◌∷◌, ◌++◌, refl, sym, ◌∙◌, ap, subst, arith}
-use Rattle.std.specs.Prelude.{◌↔◌, ◌||◌}
+use Rattle.std.specs.Prelude.{◌↔◌}
 use Rattle.std.specs.List.{AllByRecursion}
 use Rattle.std.proofs.lemmas.Grind.{flat_map-append}
 use Rattle.scp_driver.specs.Driver.{Says}
@@ -14,9 +14,7 @@ use Rattle.scp_turn.specs.Watch.{Noting, Watched}
 use Rattle.scp_turn.specs.Turn.{Goes, events_of, reader_events, stage_events, links_of, IsStill, IsTurn}
 use Rattle.scp_turn.specs.Rest.{AreMovingTurns, Rests}
 use Rattle.scp_episode.specs.declared.sending.Sending.{Sending}
-use Rattle.scp_episode.specs.Episode.{IsOfHost, sent_by, sent_in, is_full_reply, finds_full}
-use Rattle.scp_episode.specs.declared.resting.Fullness.{Fullness}
-use Rattle.scp_episode.specs.inside.Fullness.{full_after, notes_full}
+use Rattle.scp_episode.specs.Episode.{IsOfHost, sent_by, sent_in}
 use Rattle.scp_episode.proofs.Going.{Saying, goes_nothing, goes_then, all_on, watched_on}
 
 -- no drain
@@ -116,33 +114,3 @@ module _ {D : Type 0} (says : Says D) where
 
   pub goes_on : {W : Type 0} (Note : Noting D W) (w z : W) (a b : NodeView D) (k : ℕ) → k ≡ 100000 → RestsWatched says Note (AreMovingTurns says k) w a b z → RestsWatched says Note (Rests says false) w a b z
   goes_on Note w z a b k is g = subst (λ (j : ℕ). RestsWatched says Note (AreMovingTurns says j) w a b z) is g
-
--- ---- who watches for a full journal
-
-full_later : (w : Fullness) (r : Reply) → (full_after w r).is_full ≡ (is_full_reply r || w.is_full)
-full_later w reply.Accepted = refl
-full_later w reply.Moved = refl
-full_later w (reply.Sent bytes) = refl
-full_later w reply.Idle = refl
-full_later w reply.Blocked = refl
-full_later w reply.Full = refl
-full_later w reply.NotOpen = refl
-full_later w reply.AlreadyOpen = refl
-full_later w reply.LivesSpent = refl
-full_later w reply.NoLink = refl
-full_later w reply.Failed = refl
-full_later w reply.JournalFull = refl
-full_later w reply.NoMemory = refl
-
-turned : (a b c : Bool) → (b || (a || c)) ≡ ((a || b) || c)
-turned a b c = grind arith
-
-module _ {D : Type 0} (says : Says D) where
-  -- the watch remembers exactly that
-  pub remembers : (heard : List Exchange) (w z : Fullness) (a b : NodeView D) → Watched says notes_full 1 w a heard b z → z.is_full ≡ (finds_full heard || w.is_full)
-  remembers [] w z a b p = ap (λ (u : Fullness). u.is_full) p.1
-  remembers (x ∷ heard) w z a b p =
-      let note = p.3 in
-      let mid : p.1 ≡ full_after w x.1 = note.2 ∙ ap (λ (u : Fullness). full_after u x.1) note.1 in
-      remembers heard p.1 z p.0 b p.4 ∙ ap (λ (b : Bool). finds_full heard || b) (ap (λ (u : Fullness). u.is_full) mid ∙ full_later w x.1)
-      ∙ turned (is_full_reply x.1) (finds_full heard) w.is_full

@@ -1,2 +1,2 @@
 pub mod Draining
-pub mod Fullness
+pub mod Cause

@@ -3,14 +3,15 @@ ghost use Rattle.std.specs.Prelude.{◌≡◌, ◌⊎◌, ◌↔◌, true, false
 ghost use Rattle.scp_turn.specs.Watch.{notes, Watched};
 ghost use Rattle.scp_turn.specs.Turn.{Goes};
 ghost use Rattle.scp_episode.specs.Episode.{IsOfHost, IsEpisode, finds_full, sent_in};
+ghost use Rattle.scp_episode.specs.inside.Cause.{cause_of as cause_by};
 ghost use Rattle.scp_episode.specs.inside.Draining.{GoesFollowed};
 
 use crate::draining::drain;
-use crate::resting::{Fullness, rest};
+use crate::resting::rest;
 use crate::sending::Sending;
-use scp_core::{Event, Node, Reply};
+use scp_core::{Event, Node, Reply, each_step_says_why_it_failed};
 use scp_driver::Application;
-use scp_turn::{Watch, step_with};
+use scp_turn::{NoWatch, Watch, step_with};
 use scp_types::Fault;
 use std::alloc::Global;
 
@@ -56,8 +57,21 @@ fn follow_on<A: Application + Drop + Copy, W: Watch<A>>(
     }
 }
 
-/// Plays the event, and all that follows from it; the watch is shown each step. Refused by `Failed` if the node had failed before or a step
-/// failed it, and by `NoMemory` if there is none for what went out. Then that isn't returned, but the watch was shown it.
+/// Why an event isn't answered, by why its node failed, if it did.
+fn cause_of(fault: Option<Fault>) -> Fault
+    ensures same { result ≡ cause_by fault }
+    ensures only { (result ≡ Fault.NoMemory) ⊎ (result ≡ Fault.JournalFull) }
+{
+    if matches!(fault, Some(Fault::JournalFull)) {
+        Fault::JournalFull
+    } else {
+        Fault::NoMemory
+    }
+}
+
+/// Plays the event, and all that follows from it; the watch is shown each step. Refused by `Failed` if the node had failed before, by
+/// `JournalFull` if a step found its journal full, and by `NoMemory` if a step was out of memory; each of these two failed it. Refused by
+/// `NoMemory` also if there is none for what went out. Then that isn't returned, but the watch was shown it.
 pub fn play_with<A: Application + Drop + Copy, W: Watch<A>>(
     alloc: Global,
     node: &mut Node<A>,
@@ -66,19 +80,23 @@ pub fn play_with<A: Application + Drop + Copy, W: Watch<A>>(
 ) -> Result<Played, Fault>
     requires { IsOfHost event }
     // What the node heard is an episode of the event, and what went out is what is returned. Also after a refusal the watch was shown each
-    // step, and the ledger theorem goes on holding.
-    ensures episode { Goes A.says node.old node.new (λ a heard b. IfOk result (λ played. IsEpisode A.says event played.reply a heard b × (played.sent.items ≡ sent_in heard)) × Watched A.says (notes W.notes_before W.notes_after) 1 watch.old a heard b watch.new) }
+    // step, and the ledger theorem goes on holding. It is refused by `JournalFull` exactly if a step found the journal full.
+    ensures episode { Goes A.says node.old node.new (λ a heard b. IfOk result (λ played. IsEpisode A.says event played.reply a heard b × (played.sent.items ≡ sent_in heard)) × Watched A.says (notes W.notes_before W.notes_after) 1 watch.old a heard b watch.new × (IsErrOf result Fault.JournalFull ↔ (finds_full heard ≡ true))) }
     // A node that failed isn't reported to have played it.
     ensures runs { OnOk result (node.new.failed ≡ false) }
-    ensures only { IfErr result (λ f. (f ≡ Fault.NoMemory) ⊎ (f ≡ Fault.Failed)) }
+    ensures failed { IsErrOf result Fault.Failed ↔ (node.old.failed ≡ true) }
+    ensures only { IfErr result (λ f. (f ≡ Fault.NoMemory) ⊎ ((f ≡ Fault.JournalFull) ⊎ (f ≡ Fault.Failed))) }
 {
-    if node.has_failed() {
+    each_step_says_why_it_failed::<A>();
+    if node.why_failed().is_some() {
         return Err(Fault::Failed);
     }
     let reply = step_with(node, 1, watch, event);
     let mut sent = Vec::new(alloc);
-    follow_on(node, &reply, &mut sent, watch)?;
-    Ok(Played { reply, sent })
+    match follow_on(node, &reply, &mut sent, watch) {
+        Ok(()) => Ok(Played { reply, sent }),
+        Err(_) => Err(cause_of(node.why_failed())),
+    }
 }
 
 /// Plays the event, and all that follows from it. Refused by `Failed` if the node had failed before. Refused by `JournalFull` if a step found
@@ -98,16 +116,5 @@ pub fn play<A: Application + Drop + Copy>(
     ensures failed { IsErrOf result Fault.Failed ↔ (node.old.failed ≡ true) }
     ensures only { IfErr result (λ f. (f ≡ Fault.NoMemory) ⊎ ((f ≡ Fault.JournalFull) ⊎ (f ≡ Fault.Failed))) }
 {
-    if node.has_failed() {
-        return Err(Fault::Failed);
-    }
-    let mut fullness = Fullness { is_full: false };
-    let result = play_with(alloc, node, event, &mut fullness);
-    if fullness.is_full {
-        return Err(Fault::JournalFull);
-    }
-    match result {
-        Ok(played) => Ok(played),
-        Err(_) => Err(Fault::NoMemory),
-    }
+    play_with(alloc, node, event, &mut NoWatch)
 }

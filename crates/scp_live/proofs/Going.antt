@@ -1,8 +1,12 @@
 -- A node that heard more, and then more again.
-use Rattle.std.proofs.Common.{◌≡◌, List, [], ◌∷◌, ◌++◌, refl, sym, ◌∙◌, subst, append_assoc, append-nil, ℕ}
+use Rattle.std.proofs.Common.{◌≡◌, Bool, true, false, List, [], ◌∷◌, ◌++◌, refl, sym, ◌∙◌, ap, subst, append_assoc, append-nil, ℕ}
+use Rattle.std.specs.Prelude.{◌||◌}
 use Rattle.scp_core.specs.History.{Exchange}
 use Rattle.scp_core.specs.Kv.{NodeView, LedgerTheorem}
+use Rattle.scp_driver.specs.Kv.{kv_says}
 use Rattle.scp_turn.specs.Kv.{Does, Goes, Noting, Watched}
+use Rattle.scp_episode.specs.Episode.{finds_full, is_full_reply}
+use Rattle.scp_episode.proofs.Causes.{clash, fell}
 
 does_on : (a b c : NodeView) (x y : List Exchange) → Does a x b → Does b y c → Does a (x ++ y) c
 does_on a b c [] y p q = subst (λ (v : NodeView). Does v y c) p q
@@ -28,6 +32,37 @@ heard_then a b c P Q R both f s = record {
 
 pub unsaid : (a b : NodeView) (P : List Exchange → Type 0) → Heard a b P → Heard a b (λ heard. Unit {0})
 unsaid a b P g = heard_as a b P (λ heard. Unit {0}) (λ heard p. tt) g
+
+-- a node that runs found no full journal
+pub none_full : (a b : NodeView) (heard : List Exchange) → Does a heard b → b.failed ≡ false → finds_full heard ≡ true → ⊥
+none_full a b heard does runs found = clash b.failed runs (fell kv_says heard a b does found)
+
+pub heard_running : (a b : NodeView) (P : List Exchange → Type 0) → b.failed ≡ false → Heard a b P → Heard a b (λ heard. P heard × (finds_full heard ≡ true → ⊥))
+heard_running a b P runs g = record { heard = g.heard; is = (g.is, λ found. none_full a b g.heard g.does runs found); does = g.does; theorem = g.theorem }
+
+or_true : (b : Bool) → (b || true) ≡ true
+or_true true = refl
+or_true false = refl
+
+-- a full journal that was found later was found
+pub found_later : (x y : List Exchange) → finds_full y ≡ true → finds_full (x ++ y) ≡ true
+found_later [] y e = e
+found_later (step ∷ x) y e = ap (λ (b : Bool). is_full_reply step.1 || b) (found_later x y e) ∙ or_true (is_full_reply step.1)
+
+or_before : (c d : Bool) → ((c || d) ≡ true → ⊥) → d ≡ true → ⊥
+or_before c d none found = none (ap (λ (b : Bool). c || b) found ∙ or_true c)
+
+or_behind : (c d e : Bool) → ((c || d) ≡ true → ⊥) → (c || e) ≡ true → e ≡ true
+or_behind true d e none found = absurd (none refl)
+or_behind false d e none found = found
+
+-- what wasn't found at first was found later
+pub found_behind : (x y : List Exchange) → (finds_full x ≡ true → ⊥) → finds_full (x ++ y) ≡ true → finds_full y ≡ true
+found_behind [] y none found = found
+found_behind (step ∷ x) y none found = found_behind x y (or_before (is_full_reply step.1) (finds_full x) none) (or_behind (is_full_reply step.1) (finds_full x) (finds_full (x ++ y)) none found)
+
+pub none_found : finds_full [] ≡ true → ⊥
+none_found found = let none : false ≡ true = found in cc
 
 -- what was noted of steps, and then of more
 pub watched_on : {W : Type 0} (Note : Noting W) (number : ℕ) (w v z : W) (a b c : NodeView) (x y : List Exchange) → Watched Note number w a x b v → Watched Note number v b y c z → Watched Note number w a (x ++ y) c z

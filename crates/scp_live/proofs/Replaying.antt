@@ -1,6 +1,7 @@
 -- Entries that are played again, one behind the other.
-use Rattle.std.proofs.Common.{◌≡◌, ◌<◌, ◌+◌, ℕ, suc, Bool, true, false, List, [], ◌∷◌, ◌++◌, take, get_or, refl, sym, ◌∙◌, ap, subst, append_assoc, append-nil, arith, inl, inr}
-use Rattle.std.specs.Prelude.{◌≢◌, length, nat_eq, Option, Some, None, Result, Ok, Err, OnOk, IfSome, IfNone, IsErrOf}
+use Rattle.std.proofs.Common.{◌≡◌, ◌<◌, ◌+◌, ℕ, suc, Bool, true, false, List, [], ◌∷◌, ◌++◌, take, get_or, refl, sym, ◌∙◌, ap, subst, append_assoc, append-nil, arith, inl, inr, ⊎_elim}
+use Rattle.std.specs.Prelude.{◌≢◌, ◌≤◌, ◌⊎◌, ◌↔◌, length, nat_eq, Option, Some, None, Result, Ok, Err, OnOk, IfSome, IfNone, IsErrOf}
+use Rattle.std.proofs.lemmas.List.{take_all}
 use Rattle.std.proofs.lemmas.Option.{slice_get_read}
 use Rattle.std.specs.Cmp.Lexicographic.{pointwise, bytes_decides}
 use Rattle.std.proofs.Math.Seq.{take-suc}
@@ -9,6 +10,10 @@ use Rattle.scp_core.specs.declared.event.Event.{Event as Happening}
 use Rattle.scp_core.specs.History.{Exchange}
 use Rattle.scp_core.specs.Kv.{NodeView}
 use Rattle.scp_types.specs.declared.fault.Fault.{Fault}
+use Rattle.scp_types.specs.declared.fault.Fault.TheVariants.{NoMemory, JournalFull}
+use Rattle.scp_types.specs.declared.fault.Fault.TheVariants as faults
+use Rattle.scp_types.specs.declared.names.Hash.{Hash}
+use Rattle.scp_episode.specs.Episode.{finds_full}
 use Rattle.scp_live_log.specs.Log.{EntryView}
 use Rattle.scp_live_log.specs.declared.kept.LogFault.{LogFault}
 use Rattle.scp_live_log.specs.declared.kept.LogFault.TheVariants.{Damaged, Failed}
@@ -23,7 +28,9 @@ use Rattle.scp_live_lines.specs.Says.{Says}
 use Rattle.scp_live.specs.Live.{LiveView, IsTold, told_of}
 use Rattle.scp_live.specs.Replays.{IsReplayed, AreReplayed, IsNoEvent, SaysNoEvent, IsUnfit, IsUnfitAt}
 use Rattle.scp_live.specs.inside.Replaying.{IsReplayFault}
-use Rattle.scp_live.proofs.Going.{Heard, heard_then, watched_on}
+use Rattle.scp_episode.proofs.Causes.{clash}
+use Rattle.scp_live.proofs.Going.{Heard, heard_as, heard_then, watched_on, heard_running, found_later, found_behind, none_found}
+use Rattle.scp_live.proofs.Texts.{ok_isnt, same_fault}
 
 pub replayed_none : (v : LiveView) → AreReplayed [] v [] v
 replayed_none v = (refl, refl)
@@ -51,15 +58,22 @@ pub told_apart : (event : Happening) (names : List (List ℕ)) (before after' : 
 told_apart event names before after' old new heard text longer digest t =
     (told_of names before after' t.reply old heard new, record { reply = t.reply; episode = t.episode; lines = refl; digest_is = t.digest_is }, t.lines)
 
--- an event that was played, of which just that was sent whose digest an entry has; and of what was heard this holds besides
-pub replays : (entry : EntryView) (event : Happening) (u v : LiveView) (text longer digest other : List ℕ) (b : Bool) (E : NodeView → List Exchange → NodeView → Type 0) → b ≡ true → b ≡ pointwise nat_eq digest other → other ≡ entry.sent → Says u.names entry.line (Event event) → v.names ≡ u.names → v.nodes ≡ u.nodes
-    → Goes u.node v.node (λ a heard n. IsTold event u.names u.timers v.timers a heard n text longer digest × E a heard n) → Heard u.node v.node (λ heard. IsReplayed entry u heard v × E u.node heard v.node)
-replays entry event u v text longer digest other b E holds eq is says names nodes g =
+-- a full journal is reported exactly if one was found: of an entry, and of an event
+abbrev pub EntryFull : Result (Unit {0}) LogFault → List Exchange → Type 0
+EntryFull r heard = (r ≡ Err (Failed JournalFull)) ↔ (finds_full heard ≡ true)
+
+abbrev pub EventFull : Result Hash Fault → List Exchange → Type 0
+EventFull r heard = IsErrOf r JournalFull ↔ (finds_full heard ≡ true)
+
+-- an event that was played, of which exactly that was sent whose digest an entry has; and of what was heard this holds besides
+pub replays : (entry : EntryView) (event : Happening) (u v : LiveView) (text longer digest other : List ℕ) (b : Bool) (hash : Hash) (E : NodeView → List Exchange → NodeView → Type 0) → b ≡ true → b ≡ pointwise nat_eq digest other → other ≡ entry.sent → Says u.names entry.line (Event event) → v.names ≡ u.names → v.nodes ≡ u.nodes
+    → Goes u.node v.node (λ a heard n. IsTold event u.names u.timers v.timers a heard n text longer digest × E a heard n × EventFull (Ok hash) heard) → Heard u.node v.node (λ heard. IsReplayed entry u heard v × E u.node heard v.node × EventFull (Ok hash) heard)
+replays entry event u v text longer digest other b hash E holds eq is says names nodes g =
     let same : digest ≡ entry.sent = (bytes_decides digest other).0 (sym eq ∙ holds) ∙ is in
     let t = told_apart event u.names u.timers v.timers u.node v.node g.heard text longer digest g.is.0 in
     record {
       heard = g.heard;
-      is = (record { event = event; says = says; told = t.0; tells = subst (λ (d : List ℕ). IsTold event u.names u.timers v.timers u.node g.heard v.node [] t.0 d) same t.1; names = names; nodes = nodes }, g.is.1);
+      is = (record { event = event; says = says; told = t.0; tells = subst (λ (d : List ℕ). IsTold event u.names u.timers v.timers u.node g.heard v.node [] t.0 d) same t.1; names = names; nodes = nodes }, g.is.1, g.is.2);
       does = g.does;
       theorem = g.theorem;
     }
@@ -111,28 +125,93 @@ says_nothing bad refusal names same line at is nothing =
 
 -- ---- an entry that can't be played
 
--- what comes of an entry: it is played, or it is unfit
+-- what comes of an entry: it is played, it is unfit, or the journal was full
 abbrev pub Comes : Result (Unit {0}) LogFault → ℕ → EntryView → LiveView → List Exchange → LiveView → Type 0
-Comes r place entry u heard v = OnOk r (IsReplayed entry u heard v) × (r ≡ Err (Damaged place) → IsUnfit entry u heard v)
+Comes r place entry u heard v = OnOk r (IsReplayed entry u heard v) × (r ≡ Err (Damaged place) → IsUnfit entry u heard v) × EntryFull r heard
 
-pub no_event_said : (f : LogFault) (place : ℕ) (entry : EntryView) (u : LiveView) → (f ≡ Damaged place → SaysNoEvent u.names entry.line) → Comes (Err f) place entry u [] u
-no_event_said f place entry u unsaid = (tt, λ is. inl (unsaid (let same : f ≡ Damaged place = cc in same)))
+-- where an event was played, no full journal was found
+none_in : (hash : Hash) (heard : List Exchange) → EventFull (Ok hash) heard → finds_full heard ≡ true → ⊥
+none_in hash heard told found = ok_isnt (Ok hash) hash JournalFull refl (told.1 found)
 
-pub not_played : (f : Fault) (place : ℕ) (entry : EntryView) (u v : LiveView) (E P : NodeView → List Exchange → NodeView → Type 0) → Goes u.node v.node (λ a heard n. P a heard n × E a heard n) → Heard u.node v.node (λ heard. Comes (Err (Failed f)) place entry u heard v × E u.node heard v.node)
-not_played f place entry u v E P g = record { heard = g.heard; is = ((tt, λ is. absurd cc), g.is.1); does = g.does; theorem = g.theorem }
+failed_same : (f g : Fault) → Err {T = Unit {0}} {E = LogFault} (Failed f) ≡ Err (Failed g) → f ≡ g
+failed_same f g e = cc
 
-pub is_played : (place : ℕ) (entry : EntryView) (u v : LiveView) (E : NodeView → List Exchange → NodeView → Type 0) → Heard u.node v.node (λ heard. IsReplayed entry u heard v × E u.node heard v.node) → Heard u.node v.node (λ heard. Comes (Ok tt) place entry u heard v × E u.node heard v.node)
-is_played place entry u v E g = record { heard = g.heard; is = ((g.is.0, λ is. absurd cc), g.is.1); does = g.does; theorem = g.theorem }
+-- why no event was read
+pub event_fault : (f : LogFault) (place : ℕ) → (f ≡ Failed NoMemory) ⊎ (f ≡ Damaged place) → IsReplayFault place f
+event_fault f place only =
+    ⊎_elim
+    (λ (e : f ≡ Failed NoMemory). subst (λ (g : LogFault). IsReplayFault place g) (sym e) (inl refl))
+    (λ (e : f ≡ Damaged place). subst (λ (g : LogFault). IsReplayFault place g) (sym e) refl)
+    only
+
+pub event_isnt_full : (f : LogFault) (place : ℕ) → (f ≡ Failed NoMemory) ⊎ (f ≡ Damaged place) → f ≡ Failed JournalFull → ⊥
+event_isnt_full f place only full =
+    ⊎_elim
+    (λ (e : f ≡ Failed NoMemory). let no : Failed NoMemory ≡ Failed JournalFull = sym e ∙ full in absurd cc)
+    (λ (e : f ≡ Damaged place). let no : Damaged place ≡ Failed JournalFull = sym e ∙ full in absurd cc)
+    only
+
+-- why an event wasn't played at a node that ran
+pub act_fault : (f : Fault) (a : NodeView) → a.failed ≡ false → (IsErrOf {T = Hash} (Err f) faults.Failed ↔ (a.failed ≡ true)) → (f ≡ NoMemory) ⊎ ((f ≡ JournalFull) ⊎ (f ≡ faults.Failed)) → (f ≡ NoMemory) ⊎ (f ≡ JournalFull)
+act_fault f a runs failed only =
+    ⊎_elim
+    (λ (e : f ≡ NoMemory). inl e)
+    (λ (more : (f ≡ JournalFull) ⊎ (f ≡ faults.Failed)).
+    ⊎_elim
+    (λ (e : f ≡ JournalFull). inr e)
+    (λ (e : f ≡ faults.Failed). absurd (clash a.failed runs (failed.0 (ap (λ (x : Fault). Err {T = Hash} x) e))))
+    more)
+    only
+
+pub no_event_said : (f : LogFault) (place : ℕ) (entry : EntryView) (u : LiveView) → (f ≡ Damaged place → SaysNoEvent u.names entry.line) → (f ≡ Failed JournalFull → ⊥) → Comes (Err f) place entry u [] u
+no_event_said f place entry u unsaid never = (
+  tt,
+  λ is. inl (unsaid (let same : f ≡ Damaged place = cc in same)),
+  (λ full. absurd (never (let same : f ≡ Failed JournalFull = cc in same)), λ found. absurd (none_found found)),
+)
+
+pub not_played : (f : Fault) (place : ℕ) (entry : EntryView) (u v : LiveView) (E P : NodeView → List Exchange → NodeView → Type 0) → Goes u.node v.node (λ a heard n. P a heard n × E a heard n × EventFull (Err f) heard) → Heard u.node v.node (λ heard. Comes (Err (Failed f)) place entry u heard v × E u.node heard v.node)
+not_played f place entry u v E P g = record {
+  heard = g.heard;
+  is = (
+    (
+      tt,
+      λ is. absurd cc,
+      (
+        λ full. g.is.2.0 (ap (λ (x : Fault). Err {T = Hash} x) (failed_same f JournalFull full)),
+        λ found. ap (λ (x : Fault). Err {T = Unit {0}} (Failed x)) (same_fault f JournalFull (g.is.2.1 found)),
+      ),
+    ),
+    g.is.1,
+  );
+  does = g.does;
+  theorem = g.theorem;
+}
+
+pub is_played : (place : ℕ) (entry : EntryView) (u v : LiveView) (hash : Hash) (E : NodeView → List Exchange → NodeView → Type 0) → Heard u.node v.node (λ heard. IsReplayed entry u heard v × E u.node heard v.node × EventFull (Ok hash) heard) → Heard u.node v.node (λ heard. Comes (Ok tt) place entry u heard v × E u.node heard v.node)
+is_played place entry u v hash E g = record {
+  heard = g.heard;
+  is = ((g.is.0, λ is. absurd cc, (λ full. absurd cc, λ found. absurd (none_in hash g.heard g.is.2 found))), g.is.1);
+  does = g.does;
+  theorem = g.theorem;
+}
 
 -- an event that was played, of which something else was sent
-pub plays_otherwise : (place : ℕ) (entry : EntryView) (event : Happening) (u v : LiveView) (text longer digest other : List ℕ) (b : Bool) (E : NodeView → List Exchange → NodeView → Type 0) → b ≡ false → b ≡ pointwise nat_eq digest other → other ≡ entry.sent → Says u.names entry.line (Event event)
-    → Goes u.node v.node (λ a heard n. IsTold event u.names u.timers v.timers a heard n text longer digest × E a heard n) → Heard u.node v.node (λ heard. Comes (Err (Damaged place)) place entry u heard v × E u.node heard v.node)
-plays_otherwise place entry event u v text longer digest other b E differs eq is says g =
+pub plays_otherwise : (place : ℕ) (entry : EntryView) (event : Happening) (u v : LiveView) (text longer digest other : List ℕ) (b : Bool) (hash : Hash) (E : NodeView → List Exchange → NodeView → Type 0) → b ≡ false → b ≡ pointwise nat_eq digest other → other ≡ entry.sent → Says u.names entry.line (Event event)
+    → Goes u.node v.node (λ a heard n. IsTold event u.names u.timers v.timers a heard n text longer digest × E a heard n × EventFull (Ok hash) heard) → Heard u.node v.node (λ heard. Comes (Err (Damaged place)) place entry u heard v × E u.node heard v.node)
+plays_otherwise place entry event u v text longer digest other b hash E differs eq is says g =
     let t = told_apart event u.names u.timers v.timers u.node v.node g.heard text longer digest g.is.0 in
     let differ : digest ≢ entry.sent = λ same. absurd (let e : true ≡ false = sym ((bytes_decides digest other).1 (same ∙ sym is)) ∙ sym eq ∙ differs in cc) in
     record {
       heard = g.heard;
-      is = ((tt, λ e. inr (record { event = event; says = says; told = t.0; digest = digest; tells = t.1; other = differ })), g.is.1);
+      is = (
+        (
+          tt,
+          λ e. inr (record { event = event; says = says; told = t.0; digest = digest; tells = t.1; other = differ }),
+          (λ full. absurd cc, λ found. absurd (none_in hash g.heard g.is.2 found)),
+        ),
+        g.is.1,
+      );
       does = g.does;
       theorem = g.theorem;
     }
@@ -147,13 +226,35 @@ unfit_at f entries place n entry u v w x y lt is fault same played unfit =
       played = record { mid = v; heard_first = x; heard_next = y; heard_is = refl; first = played; next = unfit (same ∙ ap (λ (m : ℕ). Damaged m) here) };
     })
 
-pub refused_at : {W : Type 0} (Note : Noting W) (f : LogFault) (entries : List EntryView) (place : ℕ) (entry : EntryView) (u v w : LiveView) (first mid last : W) → place < length entries → entry ≡ get_or entries place entry → IsReplayFault place f
+pub refused_at : {W : Type 0} (Note : Noting W) (f : LogFault) (entries : List EntryView) (place : ℕ) (entry : EntryView) (u v w : LiveView) (first mid last : W) → place < length entries → entry ≡ get_or entries place entry → IsReplayFault place f → v.node.failed ≡ false
     → Heard u.node v.node (λ heard. AreReplayed (take place entries) u heard v × Watched Note 1 first u.node heard v.node mid) → Heard v.node w.node (λ heard. Comes (Err f) place entry v heard w × Watched Note 1 mid v.node heard w.node last)
-    → Heard u.node w.node (λ heard. (Unit {0} × ((n : ℕ) → IsErrOf {T = Unit {0}} (Err f) (Damaged n) → IsUnfitAt entries n u heard w)) × Watched Note 1 first u.node heard w.node last)
-refused_at {W} Note f entries place entry u v w first mid last lt is fault p q =
-    heard_then u.node v.node w.node (λ heard. AreReplayed (take place entries) u heard v × Watched Note 1 first u.node heard v.node mid) (λ heard. Comes (Err f) place entry v heard w × Watched Note 1 mid v.node heard w.node last)
-    (λ heard. (Unit {0} × ((n : ℕ) → IsErrOf {T = Unit {0}} (Err f) (Damaged n) → IsUnfitAt entries n u heard w)) × Watched Note 1 first u.node heard w.node last)
+    → Heard u.node w.node (λ heard. (Unit {0} × ((n : ℕ) → IsErrOf {T = Unit {0}} (Err f) (Damaged n) → IsUnfitAt entries n u heard w) × EntryFull (Err f) heard) × Watched Note 1 first u.node heard w.node last)
+refused_at {W} Note f entries place entry u v w first mid last lt is fault runs p q =
+    heard_then u.node v.node w.node (λ heard. (AreReplayed (take place entries) u heard v × Watched Note 1 first u.node heard v.node mid) × (finds_full heard ≡ true → ⊥)) (λ heard. Comes (Err f) place entry v heard w × Watched Note 1 mid v.node heard w.node last)
+    (λ heard. (Unit {0} × ((n : ℕ) → IsErrOf {T = Unit {0}} (Err f) (Damaged n) → IsUnfitAt entries n u heard w) × EntryFull (Err f) heard) × Watched Note 1 first u.node heard w.node last)
     (λ x y a b. (
-      (tt, λ n e. unfit_at f entries place n entry u v w x y lt is fault (let same : f ≡ Damaged n = cc in same) a.0 (λ same. b.0.1 (ap (λ (g : LogFault). Err g) same))),
-      watched_on Note 1 first mid last u.node v.node w.node x y a.1 b.1,
-    )) p q
+      (
+        tt,
+        λ n e. unfit_at f entries place n entry u v w x y lt is fault (let same : f ≡ Damaged n = cc in same) a.0.0 (λ same. b.0.1 (ap (λ (g : LogFault). Err g) same)),
+        (λ full. found_later x y (b.0.2.0 full), λ found. b.0.2.1 (found_behind x y a.1 found)),
+      ),
+      watched_on Note 1 first mid last u.node v.node w.node x y a.0.1 b.1,
+    ))
+    (heard_running u.node v.node (λ heard. AreReplayed (take place entries) u heard v × Watched Note 1 first u.node heard v.node mid) runs p) q
+
+-- all of them were played
+pub all_replayed : {W : Type 0} (Note : Noting W) (entries : List EntryView) (place : ℕ) (u v : LiveView) (first last : W) → length entries ≤ place → v.node.failed ≡ false
+    → Heard u.node v.node (λ heard. AreReplayed (take place entries) u heard v × Watched Note 1 first u.node heard v.node last)
+    → Heard u.node v.node (λ heard. (AreReplayed entries u heard v × ((n : ℕ) → Ok {T = Unit {0}} {E = LogFault} tt ≡ Err (Damaged n) → IsUnfitAt entries n u heard v) × EntryFull (Ok tt) heard) × Watched Note 1 first u.node heard v.node last)
+all_replayed {W} Note entries place u v first last le runs p =
+    heard_as u.node v.node (λ heard. (AreReplayed (take place entries) u heard v × Watched Note 1 first u.node heard v.node last) × (finds_full heard ≡ true → ⊥))
+    (λ heard. (AreReplayed entries u heard v × ((n : ℕ) → Ok {T = Unit {0}} {E = LogFault} tt ≡ Err (Damaged n) → IsUnfitAt entries n u heard v) × EntryFull (Ok tt) heard) × Watched Note 1 first u.node heard v.node last)
+    (λ heard a. (
+      (
+        subst (λ (l : List EntryView). AreReplayed l u heard v) (take_all place entries le) a.0.0,
+        λ n is. absurd cc,
+        (λ full. absurd cc, λ found. absurd (a.1 found)),
+      ),
+      a.0.1,
+    ))
+    (heard_running u.node v.node (λ heard. AreReplayed (take place entries) u heard v × Watched Note 1 first u.node heard v.node last) runs p)

@@ -1,8 +1,8 @@
 -- Texts that are written one after the other, and the number of a line.
 use Rattle.std.proofs.Common.{◌≡◌, ◌+◌, ◌*◌, ℕ, min, List, ◌++◌, Option, None, Some, sym, ◌∙◌, ap, subst, append_assoc, arith, inl}
-use Rattle.std.specs.Prelude.{◌⊎◌, Result, Ok, Err, OnOk, OnErr, IfErr, IsOkUnless}
+use Rattle.std.specs.Prelude.{◌⊎◌, Result, Ok, Err, OnOk, OnErr, IfErr, IsErrOf, IsOkUnless}
 use Rattle.scp_types.specs.declared.fault.Fault.{Fault}
-use Rattle.scp_types.specs.declared.fault.Fault.TheVariants.{NoMemory, Failed}
+use Rattle.scp_types.specs.declared.fault.Fault.TheVariants.{NoMemory, JournalFull, Failed}
 use Rattle.scp_device.specs.Device.{Gains, GainsPart, Fails}
 
 -- two times so many, and two more, up to a bound
@@ -49,6 +49,13 @@ pub kept_behind : (r : Result (Unit {0}) Fault) (a b c : ℕ) → b ≡ a → On
 kept_behind r a b c same q = subst (λ (n : ℕ). OnOk r (c ≡ n)) same q
 
 -- a call that is refused for memory alone
-pub memory_alone : {T : Type 0} (r : Result T Fault) → IsOkUnless r NoMemory → IfErr r (λ f. (f ≡ NoMemory) ⊎ (f ≡ Failed))
+pub memory_alone : {T : Type 0} (r : Result T Fault) → IsOkUnless r NoMemory → IfErr r (λ f. (f ≡ NoMemory) ⊎ ((f ≡ JournalFull) ⊎ (f ≡ Failed)))
 memory_alone (Ok x) only = tt
 memory_alone (Err f) only = inl (let same : f ≡ NoMemory = cc in same)
+
+pub memory_isnt : {T : Type 0} (r : Result T Fault) (g : Fault) → (NoMemory ≡ g → ⊥) → IsOkUnless r NoMemory → IsErrOf r g → ⊥
+memory_isnt (Ok x) g other only is = cc
+memory_isnt (Err f) g other only is =
+    let same : f ≡ NoMemory = cc in
+    let here : f ≡ g = cc in
+    other (sym same ∙ here)

@@ -1,9 +1,10 @@
 -- What is told of an episode, put together.
-use Rattle.std.proofs.Common.{◌≡◌, ℕ, List, ◌++◌, ◌∙◌, ap, subst, append_assoc}
-use Rattle.std.specs.Prelude.{Result, Ok, Err, IfOk, length, flat_map}
+use Rattle.std.proofs.Common.{◌≡◌, ℕ, true, List, ◌++◌, sym, ◌∙◌, ap, subst, append_assoc}
+use Rattle.std.specs.Prelude.{Result, Ok, Err, IfOk, IsErrOf, IsOkUnless, ◌↔◌, length, flat_map}
 use Rattle.std.proofs.lemmas.Result.{IfOk-at_ok}
 use Rattle.sha2.specs.Sha256.{sha256}
 use Rattle.scp_types.specs.declared.fault.Fault.{Fault}
+use Rattle.scp_types.specs.declared.fault.Fault.TheVariants.{JournalFull, NoMemory}
 use Rattle.scp_types.specs.declared.names.Hash.{Hash}
 use Rattle.scp_timers.specs.declared.running.Timer.{Timer}
 use Rattle.scp_core.specs.declared.event.Event.{Event}
@@ -13,7 +14,7 @@ use Rattle.scp_core.specs.Kv.{NodeView}
 use Rattle.scp_turn.specs.Kv.{Goes}
 use Rattle.scp_episode.specs.declared.sending.Sending.{Sending}
 use Rattle.scp_episode.specs.declared.playing.Played.{Played}
-use Rattle.scp_episode.specs.Episode.{sent_in}
+use Rattle.scp_episode.specs.Episode.{sent_in, finds_full}
 use Rattle.scp_episode.specs.Kv.{IsEpisode}
 use Rattle.scp_live_lines.specs.Timers.{changes}
 use Rattle.scp_live.specs.Live.{IsTold, refusal, sent_line, new_fates, new_decisions, newly_applied, told_of}
@@ -45,25 +46,46 @@ told_so (Ok hash) played event names before after' old new heard f d a text long
 }
 told_so (Err fault) played event names before after' old new heard f d a text longer p q t e l h = tt
 
--- what a node heard, of which this holds where it isn't refused; and of all of it this holds besides
+-- what a node heard: this holds of it if it isn't refused, and this holds of all of it; and it is refused by a full journal exactly if one was
+-- found
 abbrev pub GoesBeside : {T : Type 0} → Result T Fault → NodeView → NodeView → (T → NodeView → List Exchange → NodeView → Type 0) → (NodeView → List Exchange → NodeView → Type 0) → Type 0
-GoesBeside r old new P E = Goes old new (λ a heard b. IfOk r (λ x. P x a heard b) × E a heard b)
+GoesBeside r old new P E = Goes old new (λ a heard b. IfOk r (λ x. P x a heard b) × E a heard b × (IsErrOf r JournalFull ↔ (finds_full heard ≡ true)))
+
+-- a call that returns something has no fault
+pub ok_isnt : {T : Type 0} (r : Result T Fault) (x : T) (f : Fault) → r ≡ Ok x → IsErrOf r f → ⊥
+ok_isnt {T} r x f is err = let e : Ok {T = T} {E = Fault} x ≡ Err f = sym is ∙ err in absurd cc
+
+-- no full journal is reported if there was no memory to report it
+lines_arent : (s : Result Hash Fault) → IsOkUnless s NoMemory → IsErrOf s JournalFull → ⊥
+lines_arent (Ok hash) only full = absurd cc
+lines_arent (Err fault) only full = cc
+
+pub same_fault : (f g : Fault) → Err {T = Hash} {E = Fault} f ≡ Err g → f ≡ g
+same_fault f g e = cc
+
+pub same_cause : (f g : Fault) → Err {T = Played} {E = Fault} f ≡ Err g → f ≡ g
+same_cause f g e = cc
 
 -- all of it was told, or there was no memory to tell it
 pub acts_beside : (r : Result Played Fault) (s : Result Hash Fault) (played : Played) (event : Event) (names : List (List ℕ)) (before after' : List Timer) (old new : NodeView) (f d a : ℕ) (text longer : List ℕ) (E : NodeView → List Exchange → NodeView → Type 0) → r ≡ Ok played → f ≡ length old.ledger.journal → d ≡ length old.ledger.decisions → a ≡ length old.applier.applied
     → IfOk s (λ hash. longer ≡ longer_by names before after' played.reply played.sent.items f d a new text) → IfOk s (λ hash. hash.0 ≡ sha256 (flat_map (sent_line names) played.sent.items))
-    → GoesBeside r old new (λ p o heard n. IsEpisode event p.reply o heard n × (p.sent.items ≡ sent_in heard)) E → GoesBeside s old new (λ hash o heard n. IsTold event names before after' o heard n text longer hash.0) E
-acts_beside r s played event names before after' old new f d a text longer E is p q t lines digest g = record {
+    → IsOkUnless s NoMemory → GoesBeside r old new (λ p o heard n. IsEpisode event p.reply o heard n × (p.sent.items ≡ sent_in heard)) E → GoesBeside s old new (λ hash o heard n. IsTold event names before after' o heard n text longer hash.0) E
+acts_beside r s played event names before after' old new f d a text longer E is p q t lines digest only g = record {
   heard = g.heard;
-  is = (told_so s played event names before after' old new g.heard f d a text longer p q t (IfOk-at_ok (λ (x : Played). IsEpisode event x.reply old g.heard new × (x.sent.items ≡ sent_in g.heard)) is g.is.0) lines digest, g.is.1);
+  is = (told_so s played event names before after' old new g.heard f d a text longer p q t (IfOk-at_ok (λ (x : Played). IsEpisode event x.reply old g.heard new × (x.sent.items ≡ sent_in g.heard)) is g.is.0) lines digest, g.is.1, (λ full. absurd (lines_arent s only full), λ found. absurd (ok_isnt r played JournalFull is (g.is.2.1 found))));
   does = g.does;
   theorem = g.theorem;
 }
 
 -- it was refused
 pub refuses_beside : (r : Result Played Fault) (fault : Fault) (event : Event) (names : List (List ℕ)) (before after' : List Timer) (old new : NodeView) (text longer : List ℕ) (E : NodeView → List Exchange → NodeView → Type 0)
-    → GoesBeside r old new (λ p o heard n. IsEpisode event p.reply o heard n × (p.sent.items ≡ sent_in heard)) E → GoesBeside {T = Hash} (Err fault) old new (λ hash o heard n. IsTold event names before after' o heard n text longer hash.0) E
-refuses_beside r fault event names before after' old new text longer E g = record { heard = g.heard; is = (tt, g.is.1); does = g.does; theorem = g.theorem }
+    → r ≡ Err fault → GoesBeside r old new (λ p o heard n. IsEpisode event p.reply o heard n × (p.sent.items ≡ sent_in heard)) E → GoesBeside {T = Hash} (Err fault) old new (λ hash o heard n. IsTold event names before after' o heard n text longer hash.0) E
+refuses_beside r fault event names before after' old new text longer E is g = record {
+  heard = g.heard;
+  is = (tt, g.is.1, (λ full. g.is.2.0 (is ∙ ap (λ (f : Fault). Err {T = Played} f) (same_fault fault JournalFull full)), λ found. ap (λ (f : Fault). Err {T = Hash} f) (same_cause fault JournalFull (sym is ∙ g.is.2.1 found))));
+  does = g.does;
+  theorem = g.theorem;
+}
 
 -- the same of equal names, timers and nodes
 pub acts_beside_as : (r : Result Hash Fault) (event : Event) (names names' : List (List ℕ)) (before before' after' : List Timer) (old old' new : NodeView) (text longer : List ℕ) (E : NodeView → List Exchange → NodeView → Type 0) → names ≡ names' → before ≡ before' → old ≡ old' → GoesBeside r old new (λ hash o heard n. IsTold event names before after' o heard n text longer hash.0) E → GoesBeside r old' new (λ hash o heard n. IsTold event names' before' after' o heard n text longer hash.0) E

@@ -1,10 +1,10 @@
 //! An event, and the lines that report what it did.
-ghost use Rattle.std.specs.Prelude.{◌≡◌, ◌⊎◌, ◌++◌, false, IfOk, IfErr, OnOk, IsOkUnless, map, flat_map, string_bytes};
+ghost use Rattle.std.specs.Prelude.{◌≡◌, ◌⊎◌, ◌++◌, ◌↔◌, false, true, IfOk, IfErr, OnOk, IsErrOf, IsOkUnless, map, flat_map, string_bytes};
 ghost use Rattle.sha2.specs.Sha256.{sha256};
 ghost use Rattle.scp_types.specs.declared.fault.Fault.{Fault};
 ghost use Rattle.scp_turn.specs.Kv.{Goes, Watched};
 ghost use Rattle.scp_turn.specs.Watch.{notes};
-ghost use Rattle.scp_episode.specs.Episode.{IsOfHost};
+ghost use Rattle.scp_episode.specs.Episode.{IsOfHost, finds_full};
 ghost use Rattle.scp_live_lines.specs.Timers.{changes};
 ghost use Rattle.scp_live.specs.Live.{IsTold, AreTimersOf, refusal, sent_line, new_fates, new_decisions, newly_applied};
 
@@ -71,8 +71,8 @@ fn tell(
     Ok(hash)
 }
 
-/// Plays the event and reports all that it did; the watch is shown each step. A step that failed the node, also because the journal was full, is
-/// reported as `Failed`.
+/// Plays the event and reports all that it did; the watch is shown each step. Refused by `Failed` exactly if the node had failed before, and
+/// by `JournalFull` exactly if a step found the journal full.
 pub fn act_with<W: Watch<KvDriver>>(
     alloc: Global,
     node: &mut Node,
@@ -83,10 +83,11 @@ pub fn act_with<W: Watch<KvDriver>>(
     watch: &mut W,
 ) -> Result<Hash, Fault>
     requires { IsOfHost event }
-    ensures told { Goes node.old node.new (λ a heard b. IfOk result (λ hash. IsTold event (map string_bytes names.now) running.old.items running.new.items a heard b (string_bytes text.old) (string_bytes text.new) hash.0) × Watched (notes W.notes_before W.notes_after) 1 watch.old a heard b watch.new) }
+    ensures told { Goes node.old node.new (λ a heard b. IfOk result (λ hash. IsTold event (map string_bytes names.now) running.old.items running.new.items a heard b (string_bytes text.old) (string_bytes text.new) hash.0) × Watched (notes W.notes_before W.notes_after) 1 watch.old a heard b watch.new × (IsErrOf result Fault.JournalFull ↔ (finds_full heard ≡ true))) }
     ensures timers { OnOk result (AreTimersOf node.new running.new.items) }
     ensures runs { OnOk result (node.new.failed ≡ false) }
-    ensures only { IfErr result (λ f. (f ≡ Fault.NoMemory) ⊎ (f ≡ Fault.Failed)) }
+    ensures failed { IsErrOf result Fault.Failed ↔ (node.old.failed ≡ true) }
+    ensures only { IfErr result (λ f. (f ≡ Fault.NoMemory) ⊎ ((f ≡ Fault.JournalFull) ⊎ (f ≡ Fault.Failed))) }
 {
     let marks = Marks::of(node);
     match play_with(alloc, node, event, watch) {

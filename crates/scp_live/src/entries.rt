@@ -1,12 +1,12 @@
 //! How the entries of a log are played again.
-ghost use Rattle.std.specs.Prelude.{◌≡◌, ◌⊎◌, ◌<◌, ℕ, IfOk, IfErr, IfSome, IfNone, OnOk, Err, length};
+ghost use Rattle.std.specs.Prelude.{◌≡◌, ◌⊎◌, ◌↔◌, ◌<◌, ℕ, true, IfOk, IfErr, IfSome, IfNone, OnOk, Err, length};
 ghost use Rattle.scp_types.specs.declared.fault.Fault.{Fault};
 ghost use Rattle.scp_live_log.specs.declared.kept.LogFault.TheVariants.{Another, Damaged, Failed};
 ghost use Rattle.scp_turn.specs.Kv.{Goes, Watched};
 ghost use Rattle.scp_turn.specs.Watch.{notes};
 ghost use Rattle.scp_live_lines.specs.declared.asked.Asked.TheVariants as asked;
 ghost use Rattle.scp_live_lines.specs.Says.{Says};
-ghost use Rattle.scp_episode.specs.Episode.{IsOfHost};
+ghost use Rattle.scp_episode.specs.Episode.{IsOfHost, finds_full};
 ghost use Rattle.scp_live.specs.Replays.{IsReplayed, AreReplayed, SaysNoEvent, IsUnfit, IsUnfitAt};
 ghost use Rattle.scp_live.specs.inside.Replaying.{IsReplayFault};
 ghost use Rattle.scp_live.specs.Living.{IsLive};
@@ -41,7 +41,7 @@ fn event_of(alloc: Global, live: &Live, entry: &Entry, place: usize) -> Result<E
     ensures says { IfOk result (λ event. Says live.now.names entry.now.line (asked.Event event)) }
     ensures host { IfOk result IsOfHost }
     ensures unsaid { result ≡ Err (Damaged place) → SaysNoEvent live.now.names entry.now.line }
-    ensures only { IfErr result (IsReplayFault place) }
+    ensures only { IfErr result (λ f. (f ≡ Failed Fault.NoMemory) ⊎ (f ≡ Damaged place)) }
 {
     let found = match event_in(alloc, live, entry.line()) {
         Ok(found) => found,
@@ -54,7 +54,7 @@ fn event_of(alloc: Global, live: &Live, entry: &Entry, place: usize) -> Result<E
 }
 
 /// Plays an entry again; the watch is shown each step. The entry is damaged if its line says no event, or if something else is sent for
-/// it.
+/// it. Refused by `JournalFull` exactly if a step found the journal full.
 fn replay_entry<W: Watch<KvDriver>>(
     alloc: Global,
     live: &mut Live,
@@ -63,7 +63,7 @@ fn replay_entry<W: Watch<KvDriver>>(
     watch: &mut W,
 ) -> Result<(), LogFault>
     requires live { IsLive live.old.node }
-    ensures replayed { Goes live.old.node live.new.node (λ _ heard _. (OnOk result (IsReplayed entry.now live.old heard live.new) × (result ≡ Err (Damaged place) → IsUnfit entry.now live.old heard live.new)) × Watched (notes W.notes_before W.notes_after) 1 watch.old live.old.node heard live.new.node watch.new) }
+    ensures replayed { Goes live.old.node live.new.node (λ _ heard _. (OnOk result (IsReplayed entry.now live.old heard live.new) × (result ≡ Err (Damaged place) → IsUnfit entry.now live.old heard live.new) × ((result ≡ Err (Failed Fault.JournalFull)) ↔ (finds_full heard ≡ true))) × Watched (notes W.notes_before W.notes_after) 1 watch.old live.old.node heard live.new.node watch.new) }
     ensures live { OnOk result (IsLive live.new.node) }
     ensures only { IfErr result (IsReplayFault place) }
 {
@@ -84,8 +84,8 @@ fn replay_entry<W: Watch<KvDriver>>(
 }
 
 /// Plays the entries of a log again, in order; the watch is shown each step. Refused by `Damaged` for the first entry that can't be
-/// played: its line says no event, or something else is sent for it now. Refused by `Failed` with `Fault::Failed` if a step failed the
-/// node, and with `Fault::NoMemory`.
+/// played: its line says no event, or something else is sent for it now. Refused by `Failed` with `Fault::JournalFull` exactly if a step
+/// found the journal full, and with `Fault::NoMemory`.
 pub fn replay<W: Watch<KvDriver>>(
     alloc: Global,
     live: &mut Live,
@@ -93,11 +93,11 @@ pub fn replay<W: Watch<KvDriver>>(
     watch: &mut W,
 ) -> Result<(), LogFault>
     requires live { IsLive live.old.node }
-    ensures replayed { Goes live.old.node live.new.node (λ _ heard _. (OnOk result (AreReplayed entries.now live.old heard live.new) × ((n : ℕ) → result ≡ Err (Damaged n) → IsUnfitAt entries.now n live.old heard live.new)) × Watched (notes W.notes_before W.notes_after) 1 watch.old live.old.node heard live.new.node watch.new) }
+    ensures replayed { Goes live.old.node live.new.node (λ _ heard _. (OnOk result (AreReplayed entries.now live.old heard live.new) × ((n : ℕ) → result ≡ Err (Damaged n) → IsUnfitAt entries.now n live.old heard live.new) × ((result ≡ Err (Failed Fault.JournalFull)) ↔ (finds_full heard ≡ true))) × Watched (notes W.notes_before W.notes_after) 1 watch.old live.old.node heard live.new.node watch.new) }
     ensures live { OnOk result (IsLive live.new.node) }
     ensures another { result ≡ Err Another → ⊥ }
     ensures damaged { (n : ℕ) → result ≡ Err (Damaged n) → n < length entries.now }
-    ensures only { (fault : Fault) → result ≡ Err (Failed fault) → (fault ≡ Fault.NoMemory) ⊎ (fault ≡ Fault.Failed) }
+    ensures only { (fault : Fault) → result ≡ Err (Failed fault) → (fault ≡ Fault.NoMemory) ⊎ (fault ≡ Fault.JournalFull) }
 {
     for (place, entry) in entries.iter().enumerate() {
         match replay_entry(alloc, live, entry, place, watch) {

@@ -1,5 +1,5 @@
 //! A live node.
-ghost use Rattle.std.specs.Prelude.{◌≡◌, ◌⊎◌, ◌↔◌, [], false, map, IfOk, IfErr, OnOk, Err, string_bytes};
+ghost use Rattle.std.specs.Prelude.{◌≡◌, ◌⊎◌, ◌↔◌, [], false, true, map, IfOk, IfErr, OnOk, IsErrOf, Err, string_bytes};
 ghost use Rattle.scp_types.specs.declared.fault.Fault.{Fault};
 ghost use Rattle.scp_core.specs.Config.{IsConfig};
 ghost use Rattle.scp_core.specs.Node.{accepts_at};
@@ -7,7 +7,7 @@ ghost use Rattle.scp_core.specs.Kv.{LedgerTheorem};
 ghost use Rattle.scp_turn.specs.Turn.{links_of};
 ghost use Rattle.scp_turn.specs.Kv.{Goes, Watched};
 ghost use Rattle.scp_turn.specs.Watch.{notes};
-ghost use Rattle.scp_episode.specs.Episode.{IsOfHost};
+ghost use Rattle.scp_episode.specs.Episode.{IsOfHost, finds_full};
 ghost use Rattle.scp_live.specs.Live.{IsTold, AreTimersOf};
 
 use crate::acting;
@@ -88,9 +88,9 @@ impl Live {
     }
 
     /// Plays the event and all that follows from it; the watch is shown each step. Adds the lines that report it to the text, and
-    /// returns the SHA-256 of the lines of what was sent. Refused by `Failed` if the node had failed before, or if a step failed it
-    /// because memory ran out or the journal was full. Refused by `NoMemory` if there is no memory for what was sent or for the lines.
-    /// After a refusal, the lines may not report all that the node did.
+    /// returns the SHA-256 of the lines of what was sent. Refused by `Failed` if the node had failed before, by `JournalFull` if a step
+    /// found the journal full, and by `NoMemory` if a step was out of memory, or if there is no memory for what was sent or for the
+    /// lines. After a refusal, the lines may not report all that the node did.
     pub fn act_with<W: Watch<KvDriver>>(
         &mut self,
         event: Event,
@@ -99,15 +99,16 @@ impl Live {
     ) -> Result<Hash, Fault>
         requires { IsOfHost event }
         // The node went through an episode of the event, and its lines are written. Even if the call is refused, the watch was shown
-        // each step, and the ledger theorem still holds.
-        ensures told { Goes self.old.node self.new.node (λ a heard b. IfOk result (λ hash. IsTold event self.old.names self.old.timers self.new.timers a heard b (string_bytes text.old) (string_bytes text.new) hash.0) × Watched (notes W.notes_before W.notes_after) 1 watch.old a heard b watch.new) }
+        // each step, and the ledger theorem still holds. It is refused by `JournalFull` exactly if a step found the journal full.
+        ensures told { Goes self.old.node self.new.node (λ a heard b. IfOk result (λ hash. IsTold event self.old.names self.old.timers self.new.timers a heard b (string_bytes text.old) (string_bytes text.new) hash.0) × Watched (notes W.notes_before W.notes_after) 1 watch.old a heard b watch.new × (IsErrOf result Fault.JournalFull ↔ (finds_full heard ≡ true))) }
         // The host was asked to run exactly the timers that should run.
         ensures timers { OnOk result (AreTimersOf self.new.node self.new.timers) }
         ensures names { self.new.names ≡ self.old.names }
         ensures nodes { self.new.nodes ≡ self.old.nodes }
         // A call during which the node failed is never reported as played.
         ensures runs { OnOk result (self.new.node.failed ≡ false) }
-        ensures only { IfErr result (λ f. (f ≡ Fault.NoMemory) ⊎ (f ≡ Fault.Failed)) }
+        ensures failed { IsErrOf result Fault.Failed ↔ (self.old.node.failed ≡ true) }
+        ensures only { IfErr result (λ f. (f ≡ Fault.NoMemory) ⊎ ((f ≡ Fault.JournalFull) ⊎ (f ≡ Fault.Failed))) }
     {
         acting::act_with(
             self.alloc,

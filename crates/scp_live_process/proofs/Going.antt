@@ -1,20 +1,10 @@
 -- A node that heard more, and a watch that was told of it.
-use Rattle.std.proofs.Common.{◌≡◌, Bool, true, false, List, [], ◌∷◌, ◌++◌, refl, ◌∙◌, ap}
-use Rattle.std.specs.Prelude.{◌||◌}
-use Rattle.scp_live.specs.scp_episode.specs.Episode.{finds_full, is_full_reply}
+use Rattle.std.proofs.Common.{◌≡◌, true, false, List, [], ◌++◌, refl}
+use Rattle.scp_live.specs.scp_episode.specs.Episode.{finds_full}
 use Rattle.scp_turn.specs.scp_core.specs.History.{Exchange}
 use Rattle.scp_turn.specs.scp_core.specs.Kv.{NodeView}
 use Rattle.scp_turn.specs.Kv.{Goes, Noting, Watched}
-use Rattle.scp_live.proofs.Going.{Heard, heard_nothing, heard_as, heard_then, watched_on}
-
-or_true : (b : Bool) → (b || true) ≡ true
-or_true true = refl
-or_true false = refl
-
--- a full journal that was found later was found
-pub found_later : (x y : List Exchange) → finds_full y ≡ true → finds_full (x ++ y) ≡ true
-found_later [] y e = e
-found_later (step ∷ x) y e = ap (λ (b : Bool). is_full_reply step.1 || b) (found_later x y e) ∙ or_true (is_full_reply step.1)
+use Rattle.scp_live.proofs.Going.{Heard, heard_nothing, heard_as, heard_then, watched_on, none_full}
 
 -- a node that heard this much more, and a watch that was told of each step
 abbrev pub Seen : {W : Type 0} → Noting W → W → W → NodeView → NodeView → (List Exchange → Type 0) → Type 0
@@ -22,6 +12,10 @@ Seen {W} Note w z a b Is = Goes a b (λ old heard new. Watched Note 1 w a heard 
 
 pub seen_nothing : {W : Type 0} (Note : Noting W) (w : W) (a : NodeView) (Is : List Exchange → Type 0) → Is [] → Seen Note w w a a Is
 seen_nothing {W} Note w a Is is = heard_nothing a (λ heard. Watched Note 1 w a heard a w × Is heard) ((refl, refl), is)
+
+-- a node that runs found no full journal
+pub seen_running : {W : Type 0} (Note : Noting W) (w z : W) (a b : NodeView) (P : List Exchange → Type 0) → b.failed ≡ false → Seen Note w z a b P → Seen Note w z a b (λ heard. P heard × (finds_full heard ≡ true → ⊥))
+seen_running {W} Note w z a b P runs g = record { heard = g.heard; is = (g.is.0, (g.is.1, λ found. none_full a b g.heard g.does runs found)); does = g.does; theorem = g.theorem }
 
 pub seen_as : {W : Type 0} (Note : Noting W) (w z : W) (a b : NodeView) (P Q : List Exchange → Type 0) → ((heard : List Exchange) → P heard → Q heard) → Seen Note w z a b P → Seen Note w z a b Q
 seen_as {W} Note w z a b P Q f g = heard_as a b (λ heard. Watched Note 1 w a heard b z × P heard) (λ heard. Watched Note 1 w a heard b z × Q heard) (λ heard p. (p.0, f heard p.1)) g

@@ -1,5 +1,5 @@
 pub mod Going
-pub mod Noticing
+pub mod Acted
 pub mod Answering
 pub mod Replaying
 pub mod Configs

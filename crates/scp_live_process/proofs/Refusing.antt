@@ -1,6 +1,6 @@
 -- Why a node doesn't start, and what stays of its log.
 use Rattle.std.proofs.Common.{◌≡◌, ℕ, true, List, [], ◌++◌, refl, sym, ◌∙◌, ap, subst, append-nil, inl, inr, ⊎_elim}
-use Rattle.std.specs.Prelude.{◌≤◌, ◌⊎◌, Err, IsErrOf}
+use Rattle.std.specs.Prelude.{◌≤◌, ◌⊎◌, ◌↔◌, Ok, Err, IsErrOf}
 use Rattle.scp_types.specs.declared.fault.Fault.{Fault}
 use Rattle.scp_types.specs.declared.fault.Fault.TheVariants as fault
 use Rattle.scp_device.specs.Device.{Fails}
@@ -19,8 +19,7 @@ use Rattle.scp_live_process.specs.Closing.{open_links, MayBeOpen, HasNoCloseLine
 use Rattle.scp_live_process.specs.Ending.{IsStartFault, StaysKept}
 use Rattle.scp_live_process.specs.Starting.{HasRead}
 use Rattle.scp_live_process.specs.inside.Batches.{StaysDurable}
-use Rattle.scp_live_process.specs.inside.Replaying.{IsReplayRefusal, refusal_in}
-use Rattle.scp_live_process.proofs.Going.{found_later}
+use Rattle.scp_live.proofs.Going.{found_later, found_behind}
 
 -- ---- what stays
 
@@ -58,30 +57,65 @@ recover_fault holds may_leave faults header log log' u (Failed x) another damage
     (λ (e : x ≡ fault.NoMemory). subst (λ (y : Fault). IsStartFault holds may_leave faults header log log' u [] u (Failed y)) (sym e) (memory (ap (λ (y : Fault). Err (Failed y)) e)))
     (only x refl)
 
--- why entries aren't all played, where no step found the journal full
-pub refused_so : (f : LogFault) (entries : List EntryView) (u v : LiveView) (heard : List Exchange) → ((n : ℕ) → IsErrOf {T = Unit {0}} (Err f) (Damaged n) → IsUnfitAt entries n u heard v) → IsReplayRefusal entries u heard v (refusal_in f)
-refused_so Another entries u v heard unfit = tt
-refused_so (Damaged n) entries u v heard unfit = unfit n refl
-refused_so (Failed x) entries u v heard unfit = tt
-
 -- its entries aren't all played
-pub replay_fault : {L : Type 0} (holds may_leave : L → List ℕ → Type 0) (faults : L → ℕ) (header : List ℕ) (log log' : Kept L) (u v : LiveView) (heard : List Exchange) (entries : List EntryView) (f : LogFault) → HasRead holds may_leave header entries log log' → faults log'.log ≡ faults log.log → IsReplayRefusal entries u heard v f → IsStartFault holds may_leave faults header log log' u heard v f
-replay_fault holds may_leave faults header log log' u v heard entries Another read quiet why = absurd why
-replay_fault holds may_leave faults header log log' u v heard entries (Damaged n) read quiet why = inr (record { entries = entries; read = read; unfit = why })
-replay_fault holds may_leave faults header log log' u v heard entries (Failed fault.NoMemory) read quiet why = quiet
-replay_fault holds may_leave faults header log log' u v heard entries (Failed (fault.Malformed x)) read quiet why = absurd why
-replay_fault holds may_leave faults header log log' u v heard entries (Failed fault.TooLong) read quiet why = absurd why
-replay_fault holds may_leave faults header log log' u v heard entries (Failed fault.Insane) read quiet why = absurd why
-replay_fault holds may_leave faults header log log' u v heard entries (Failed fault.Full) read quiet why = absurd why
-replay_fault holds may_leave faults header log log' u v heard entries (Failed fault.NotOpen) read quiet why = absurd why
-replay_fault holds may_leave faults header log log' u v heard entries (Failed fault.AlreadyOpen) read quiet why = absurd why
-replay_fault holds may_leave faults header log log' u v heard entries (Failed fault.LivesSpent) read quiet why = absurd why
-replay_fault holds may_leave faults header log log' u v heard entries (Failed fault.BadConfig) read quiet why = absurd why
-replay_fault holds may_leave faults header log log' u v heard entries (Failed fault.Failed) read quiet why = absurd why
-replay_fault holds may_leave faults header log log' u v heard entries (Failed fault.JournalFull) read quiet why = why
-replay_fault holds may_leave faults header log log' u v heard entries (Failed (fault.BadScript x)) read quiet why = absurd why
-replay_fault holds may_leave faults header log log' u v heard entries (Failed (fault.Refused x)) read quiet why = absurd why
-replay_fault holds may_leave faults header log log' u v heard entries (Failed fault.Device) read quiet why = absurd why
+pub replay_fault : {L : Type 0} (holds may_leave : L → List ℕ → Type 0) (faults : L → ℕ) (header : List ℕ) (log log' : Kept L) (u v : LiveView) (heard : List Exchange) (entries : List EntryView) (f : LogFault) → HasRead holds may_leave header entries log log' → faults log'.log ≡ faults log.log
+    → (IsErrOf {T = Unit {0}} (Err f) Another → ⊥) → ((n : ℕ) → IsErrOf {T = Unit {0}} (Err f) (Damaged n) → IsUnfitAt entries n u heard v) → (IsErrOf {T = Unit {0}} (Err f) (Failed fault.JournalFull) → finds_full heard ≡ true)
+    → ((x : Fault) → IsErrOf {T = Unit {0}} (Err f) (Failed x) → (x ≡ fault.NoMemory) ⊎ (x ≡ fault.JournalFull)) → IsStartFault holds may_leave faults header log log' u heard v f
+replay_fault holds may_leave faults header log log' u v heard entries Another read quiet another unfit full only = absurd (another refl)
+replay_fault holds may_leave faults header log log' u v heard entries (Damaged n) read quiet another unfit full only = inr (record { entries = entries; read = read; unfit = unfit n refl })
+replay_fault holds may_leave faults header log log' u v heard entries (Failed x) read quiet another unfit full only =
+    ⊎_elim
+    (λ (e : x ≡ fault.NoMemory). subst (λ (y : Fault). IsStartFault holds may_leave faults header log log' u heard v (Failed y)) (sym e) quiet)
+    (λ (e : x ≡ fault.JournalFull). subst (λ (y : Fault). IsStartFault holds may_leave faults header log log' u heard v (Failed y)) (sym e) (full (ap (λ (y : Fault). Err (Failed y)) e)))
+    (only x refl)
+
+-- ---- whether the journal was full
+
+pub log_err_as : {T U : Type 0} (f e : LogFault) → IsErrOf {T = T} (Err f) e → IsErrOf {T = U} (Err f) e
+log_err_as f e is = let same : f ≡ e = cc in ap (λ (x : LogFault). Err x) same
+
+-- a log that isn't read finds no full journal
+pub recover_not_full : {T : Type 0} (f : LogFault) → ((x : Fault) → IsErrOf {T = T} (Err f) (Failed x) → (x ≡ fault.Device) ⊎ (x ≡ fault.NoMemory)) → IsErrOf {T = T} (Err f) (Failed fault.JournalFull) → ⊥
+recover_not_full f only full =
+    ⊎_elim
+    (λ (e : fault.JournalFull ≡ fault.Device). absurd cc)
+    (λ (e : fault.JournalFull ≡ fault.NoMemory). absurd cc)
+    (only fault.JournalFull full)
+
+-- if a call of the log isn't refused, none was found
+pub log_unfilled : {T : Type 0} (x : T) (heard : List Exchange) → (IsErrOf {T = T} {E = LogFault} (Ok x) (Failed fault.JournalFull) ↔ (finds_full heard ≡ true)) → finds_full heard ≡ true → ⊥
+log_unfilled {T} x heard told found = let e : Ok {T = T} {E = LogFault} x ≡ Err (Failed fault.JournalFull) = told.1 found in cc
+
+-- one that was found later, after what a node heard that ran
+pub fault_behind : {T : Type 0} (f : Fault) (x y : List Exchange) → (finds_full x ≡ true → ⊥) → (IsErrOf {T = T} (Err f) fault.JournalFull ↔ (finds_full y ≡ true)) → ((Failed f ≡ Failed fault.JournalFull) ↔ (finds_full (x ++ y) ≡ true))
+fault_behind {T} f x y none told = (
+  λ full. found_later x y (told.0 (let same : f ≡ fault.JournalFull = cc in ap (λ (z : Fault). Err {T = T} z) same)),
+  λ found.
+      let err : Err {T = T} {E = Fault} f ≡ Err fault.JournalFull = told.1 (found_behind x y none found) in
+      let same : f ≡ fault.JournalFull = cc in
+      ap (λ (z : Fault). Failed z) same,
+)
+
+pub log_behind : {T U : Type 0} (f : Fault) (x y : List Exchange) → (finds_full x ≡ true → ⊥) → (IsErrOf {T = T} (Err f) fault.JournalFull ↔ (finds_full y ≡ true)) → (IsErrOf {T = U} (Err (Failed f)) (Failed fault.JournalFull) ↔ (finds_full (x ++ y) ≡ true))
+log_behind {T} {U} f x y none told =
+    let both = fault_behind {T = T} f x y none told in (
+      λ full. both.0 (let same : Failed f ≡ Failed fault.JournalFull = cc in same),
+      λ found. ap (λ (z : LogFault). Err {T = U} z) (both.1 found),
+    )
+
+-- the fault that is reported, by what the start says of it
+pub fault_full : {T : Type 0} (f : LogFault) (heard : List Exchange) → (IsErrOf {T = T} (Err f) (Failed fault.JournalFull) ↔ (finds_full heard ≡ true)) → ((f ≡ Failed fault.JournalFull) ↔ (finds_full heard ≡ true))
+fault_full {T} f heard told = (
+  λ e. told.0 (ap (λ (z : LogFault). Err {T = T} z) e),
+  λ found.
+      let err : Err {T = T} {E = LogFault} f ≡ Err (Failed fault.JournalFull) = told.1 found in
+      let same : f ≡ Failed fault.JournalFull = cc in
+      same,
+)
+
+-- a node that started found none, and another fault is reported
+pub fault_else : {T : Type 0} (x : T) (f : LogFault) (heard : List Exchange) → (f ≡ Failed fault.JournalFull → ⊥) → (IsErrOf {T = T} {E = LogFault} (Ok x) (Failed fault.JournalFull) ↔ (finds_full heard ≡ true)) → ((f ≡ Failed fault.JournalFull) ↔ (finds_full heard ≡ true))
+fault_else x f heard other told = (λ e. absurd (other e), λ found. absurd (log_unfilled x heard told found))
 
 -- a link isn't closed
 pub close_fault : {L T : Type 0} (holds may_leave : L → List ℕ → Type 0) (faults : L → ℕ) (header : List ℕ) (log mid log' : Kept L) (u v w : LiveView) (x y : List Exchange) (entries : List EntryView) (f : Fault) → HasRead holds may_leave header entries log mid → faults mid.log ≡ faults log.log → AreReplayed entries u x v

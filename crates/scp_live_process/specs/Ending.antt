@@ -1,6 +1,6 @@
 -- How a node that runs as a process ends with another status than 0: what it did, why it ended, and its last line (this project's
 -- profile).
-use Rattle.std.specs.Prelude.{ℕ, ◌≡◌, ◌⊎◌, ◌<◌, true, List, ◌++◌, Option, Err}
+use Rattle.std.specs.Prelude.{ℕ, ◌≡◌, ◌⊎◌, ◌↔◌, ◌<◌, true, List, ◌++◌, Option, Err}
 use Rattle.scp_types.specs.declared.fault.Fault.{Fault}
 use Rattle.scp_types.specs.declared.fault.Fault.TheVariants.{NoMemory, TooLong, AlreadyOpen, BadConfig, JournalFull, Device}
 use Rattle.scp_device.specs.Device.{Fails, Gains, GainsPart}
@@ -131,11 +131,13 @@ pub record IsUnserved {L : Type 0} (holds may_leave : L → List ℕ → Type 0)
   pub served : HasServedPart may_leave holds (Err cause) greeted.left greeted.written after'.written ready log' started heard_next
   pub why : IsServeFault greeted after' (faults ready.log) (faults log'.log) heard_next cause
 
--- The node stopped by this fault: before it started, before it greeted its host, or while it served it.
+-- The node stopped by this fault: before it started, before it greeted its host, or while it served it. A full journal is the fault exactly if
+-- a step found the journal full.
 abbrev pub StopsBy : {L : Type 0} → (L → List ℕ → Type 0) → (L → List ℕ → Type 0) → (L → ℕ) → List ℕ → Streams → Streams → Kept L → Kept L → LiveView → List Exchange → LiveView → LogFault → Type 0
 StopsBy holds may_leave faults header before after' log log' old heard new fault =
-    IsUnstarted holds may_leave faults header before after' log log' old heard new fault
-    ⊎ (IsUngreeted holds may_leave header before after' log log' old heard new fault ⊎ IsUnserved holds may_leave faults header before after' log log' old heard fault)
+    ((fault ≡ Failed JournalFull) ↔ (finds_full heard ≡ true))
+    × (IsUnstarted holds may_leave faults header before after' log log' old heard new fault
+    ⊎ (IsUngreeted holds may_leave header before after' log log' old heard new fault ⊎ IsUnserved holds may_leave faults header before after' log log' old heard fault))
 
 -- A node with these settings stopped by this fault. The headline holds of all that it received and replied.
 pub record StopsAs {L : Type 0} (holds may_leave : L → List ℕ → Type 0) (faults : L → ℕ) (settings : Settings) (before after' : Streams) (log : L) (fault : LogFault) : Type 0 where

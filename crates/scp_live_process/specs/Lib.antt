@@ -1,5 +1,4 @@
 pub mod Stands
-pub mod Noticing
 pub mod Answers
 pub mod Serving
 pub mod Closing

@@ -1,5 +1,5 @@
 //! The answers to the lines of a host.
-ghost use Rattle.std.specs.Prelude.{◌≡◌, ◌⊎◌, true, IfOk, IfErr, OnOk, IsErrOf};
+ghost use Rattle.std.specs.Prelude.{◌≡◌, ◌⊎◌, ◌↔◌, true, IfOk, IfErr, OnOk, IsErrOf};
 ghost use Rattle.scp_live_log.specs.Log.{IsLine};
 ghost use Rattle.scp_turn.specs.Kv.{Goes, Watched};
 ghost use Rattle.scp_turn.specs.Watch.{notes};
@@ -11,7 +11,6 @@ ghost use Rattle.scp_live_process.specs.inside.Batches.{number_behind};
 ghost use Rattle.scp_live.specs.Living.{IsLive};
 
 use crate::batch::Batch;
-use crate::fullness::JournalWatch;
 use scp_batches::Line;
 use scp_live::Live;
 use scp_live_lines::{Asked, WordFault, read_line};
@@ -27,12 +26,12 @@ fn done<V: Watch<KvDriver>>(
     live: &mut Live,
     asked: Asked,
     line: Vec<u8>,
-    watch: &mut JournalWatch<V>,
+    watch: &mut V,
 ) -> Result<(), Fault>
     requires live { IsLive live.old.node }
     requires says { Says live.old.names line.items asked }
     requires line { IsLine line.items }
-    ensures done { Goes live.old.node live.new.node (λ _ heard _. Watched (notes V.notes_before V.notes_after) 1 watch.old.watch live.old.node heard live.new.node watch.new.watch × (OnOk result (Adds (IsDone asked line.items) live.old heard live.new batch.old batch.new) × (IsErrOf result Fault.JournalFull → finds_full heard ≡ true))) }
+    ensures done { Goes live.old.node live.new.node (λ _ heard _. Watched (notes V.notes_before V.notes_after) 1 watch.old live.old.node heard live.new.node watch.new × (OnOk result (Adds (IsDone asked line.items) live.old heard live.new batch.old batch.new) × (IsErrOf result Fault.JournalFull ↔ (finds_full heard ≡ true)))) }
     ensures live { OnOk result (IsLive live.new.node) }
     ensures only { IfErr result (λ f. (f ≡ Fault.NoMemory) ⊎ ((f ≡ Fault.JournalFull) ⊎ (f ≡ Fault.TooLong))) }
 {
@@ -48,10 +47,10 @@ fn answer<V: Watch<KvDriver>>(
     live: &mut Live,
     number: u64,
     line: Line,
-    watch: &mut JournalWatch<V>,
+    watch: &mut V,
 ) -> Result<(), Fault>
     requires live { IsLive live.old.node }
-    ensures answered { Goes live.old.node live.new.node (λ _ heard _. Watched (notes V.notes_before V.notes_after) 1 watch.old.watch live.old.node heard live.new.node watch.new.watch × (OnOk result (Adds (IsAnswered number line) live.old heard live.new batch.old batch.new) × (IsErrOf result Fault.JournalFull → finds_full heard ≡ true))) }
+    ensures answered { Goes live.old.node live.new.node (λ _ heard _. Watched (notes V.notes_before V.notes_after) 1 watch.old live.old.node heard live.new.node watch.new × (OnOk result (Adds (IsAnswered number line) live.old heard live.new batch.old batch.new) × (IsErrOf result Fault.JournalFull ↔ (finds_full heard ≡ true)))) }
     ensures live { OnOk result (IsLive live.new.node) }
     ensures only { IfErr result (λ f. (f ≡ Fault.NoMemory) ⊎ ((f ≡ Fault.JournalFull) ⊎ (f ≡ Fault.TooLong))) }
 {
@@ -82,10 +81,10 @@ pub fn answer_all<V: Watch<KvDriver>>(
     live: &mut Live,
     number: u64,
     lines: Vec<Line>,
-    watch: &mut JournalWatch<V>,
+    watch: &mut V,
 ) -> Result<u64, Fault>
     requires live { IsLive live.old.node }
-    ensures answered { Goes live.old.node live.new.node (λ _ heard _. Watched (notes V.notes_before V.notes_after) 1 watch.old.watch live.old.node heard live.new.node watch.new.watch × (OnOk result (Adds (AreAnswered number lines.items) live.old heard live.new batch.old batch.new) × (IsErrOf result Fault.JournalFull → finds_full heard ≡ true))) }
+    ensures answered { Goes live.old.node live.new.node (λ _ heard _. Watched (notes V.notes_before V.notes_after) 1 watch.old live.old.node heard live.new.node watch.new × (OnOk result (Adds (AreAnswered number lines.items) live.old heard live.new batch.old batch.new) × (IsErrOf result Fault.JournalFull ↔ (finds_full heard ≡ true)))) }
     ensures next { IfOk result (λ next. next ≡ number_behind number lines.items) }
     ensures live { OnOk result (IsLive live.new.node) }
     ensures only { IfErr result (λ f. (f ≡ Fault.NoMemory) ⊎ ((f ≡ Fault.JournalFull) ⊎ (f ≡ Fault.TooLong))) }

@@ -1,5 +1,5 @@
 //! The answers to the lines of a batch, and what is kept of the lines.
-ghost use Rattle.std.specs.Prelude.{◌≡◌, ◌⊎◌, ◌++◌, ◌∷◌, [], true, IfErr, OnOk, IsErrOf, IsOkUnless, All, string_bytes};
+ghost use Rattle.std.specs.Prelude.{◌≡◌, ◌⊎◌, ◌↔◌, ◌++◌, ◌∷◌, [], true, IfErr, OnOk, IsErrOf, IsOkUnless, All, string_bytes};
 ghost use Rattle.hex.specs.Hex.{IsBytes};
 ghost use Rattle.scp_live_log.specs.Log.{IsEntry, IsLine};
 ghost use Rattle.scp_turn.specs.Kv.{Goes, Watched};
@@ -10,7 +10,7 @@ ghost use Rattle.scp_live_process.specs.Answers.{IsPlayed, bad_line, Replies};
 ghost use Rattle.scp_live_process.specs.inside.Adding.{Adds, TellsMore, Asks};
 ghost use Rattle.scp_live.specs.Living.{IsLive};
 
-use crate::fullness::{JournalWatch, act};
+use crate::acting::act;
 use crate::stand::tell_stand;
 use crate::telling::write_bad;
 use scp_live::Live;
@@ -98,17 +98,19 @@ impl Batch {
         live: &mut Live,
         event: Event,
         line: Vec<u8>,
-        watch: &mut JournalWatch<V>,
+        watch: &mut V,
     ) -> Result<(), Fault>
         requires live { IsLive live.old.node }
         requires host { IsOfHost event }
         requires line { IsLine line.items }
-        ensures played { Goes live.old.node live.new.node (λ _ heard _. Watched (notes V.notes_before V.notes_after) 1 watch.old.watch live.old.node heard live.new.node watch.new.watch × (OnOk result (Adds (IsPlayed event line.items) live.old heard live.new self.old self.new) × (IsErrOf result Fault.JournalFull → finds_full heard ≡ true))) }
+        ensures played { Goes live.old.node live.new.node (λ _ heard _. Watched (notes V.notes_before V.notes_after) 1 watch.old live.old.node heard live.new.node watch.new × (OnOk result (Adds (IsPlayed event line.items) live.old heard live.new self.old self.new) × (IsErrOf result Fault.JournalFull ↔ (finds_full heard ≡ true)))) }
         ensures live { OnOk result (IsLive live.new.node) }
         ensures only { IfErr result (λ f. (f ≡ Fault.NoMemory) ⊎ (f ≡ Fault.JournalFull)) }
     {
-        let sent = act(live, event, &mut self.text, watch)?;
-        self.keep(entry_of(line, sent))
+        match act(live, event, &mut self.text, watch) {
+            Ok(sent) => self.keep(entry_of(line, sent)),
+            Err(fault) => Err(fault),
+        }
     }
 
     /// Adds the answer to a question.

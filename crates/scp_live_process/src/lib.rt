@@ -23,9 +23,9 @@
 #![tactic(auto)]
 
 mod accounting;
+mod acting;
 mod answer;
 mod batch;
-mod fullness;
 mod laws;
 mod process;
 mod serving;
@@ -35,7 +35,6 @@ mod telling;
 mod tracing;
 
 pub use accounting::account_node;
-pub use fullness::JournalWatch;
 pub use laws::{
     what_a_log_says_goes_on, what_a_log_says_makes_one_node, what_is_kept_is_what_was_played,
 };

@@ -8,7 +8,6 @@ ghost use Rattle.scp_live.specs.Living.{IsLive};
 ghost use Rattle.scp_live_process.specs.Ending.{streams, StopsBy, Stops, EndsUnserved};
 ghost use Rattle.scp_live_process.specs.Starting.{greeting, HasRun, RunsAs, IsRun};
 
-use crate::fullness::JournalWatch;
 use crate::serving::serve;
 use crate::starting::restart;
 use scp_device::{ReportOut, ScriptIn, write_text};
@@ -51,11 +50,11 @@ fn run<L: EventLog, R: ScriptIn, W: ReportOut, V: Watch<KvDriver>>(
     header: &[u8],
     reader: &mut R,
     writer: &mut W,
-    watch: &mut JournalWatch<V>,
+    watch: &mut V,
 ) -> Result<(), LogFault>
     requires live { IsLive live.old.node }
     requires line { ¬ (IsLine header.now) }
-    ensures ran { Goes live.old.node live.new.node (λ _ heard _. Watched (notes V.notes_before V.notes_after) 1 watch.old.watch live.old.node heard live.new.node watch.new.watch × OnOk result (HasRun L.holds L.may_leave header.now (R.left reader.old) (W.written writer.old) (W.written writer.new) kept.old kept.new live.old heard live.new)) }
+    ensures ran { Goes live.old.node live.new.node (λ _ heard _. Watched (notes V.notes_before V.notes_after) 1 watch.old live.old.node heard live.new.node watch.new × OnOk result (HasRun L.holds L.may_leave header.now (R.left reader.old) (W.written writer.old) (W.written writer.new) kept.old kept.new live.old heard live.new)) }
     ensures stopped { Goes live.old.node live.new.node (λ _ heard _. IfErr result (StopsBy L.holds L.may_leave L.faults header.now (streams (R.left reader.old) (R.failures reader.old) (W.written writer.old) (W.failures writer.old)) (streams (R.left reader.new) (R.failures reader.new) (W.written writer.new) (W.failures writer.new)) kept.old kept.new live.old heard live.new)) }
 {
     let count = match restart(alloc, live, kept, header, watch) {
@@ -83,9 +82,9 @@ pub fn run_settings<L: EventLog + Drop, R: ScriptIn, W: ReportOut, V: Watch<KvDr
     log: L,
     reader: &mut R,
     writer: &mut W,
-    watch: &mut JournalWatch<V>,
+    watch: &mut V,
 ) -> Result<(), LogFault>
-    ensures ran { OnOk result ((runs : RunsAs L.holds L.may_leave settings.now (R.left reader.old) (W.written writer.old) (W.written writer.new) log) × Watched (notes V.notes_before V.notes_after) 1 watch.old.watch runs.begun.node runs.heard runs.node.node watch.new.watch) }
+    ensures ran { OnOk result ((runs : RunsAs L.holds L.may_leave settings.now (R.left reader.old) (W.written writer.old) (W.written writer.new) log) × Watched (notes V.notes_before V.notes_after) 1 watch.old runs.begun.node runs.heard runs.node.node watch.new) }
     ensures stopped { IfErr result (Stops L.holds L.may_leave L.faults settings.now (streams (R.left reader.old) (R.failures reader.old) (W.written writer.old) (W.failures writer.old)) (streams (R.left reader.new) (R.failures reader.new) (W.written writer.new) (W.failures writer.new)) log) }
 {
     each_node_holds_its_ledger::<KvDriver>();
@@ -128,11 +127,7 @@ pub fn run_node<L: EventLog + Drop, R: ScriptIn, W: ReportOut>(
         Ok(settings) => settings,
         Err(fault) => return refuse(alloc, &fault, writer),
     };
-    let mut watch = JournalWatch {
-        watch: NoWatch,
-        is_full: false,
-    };
-    match run_settings(alloc, &settings, log, reader, writer, &mut watch) {
+    match run_settings(alloc, &settings, log, reader, writer, &mut NoWatch) {
         Ok(()) => 0,
         Err(fault) => fail(fault, writer),
     }

@@ -1,5 +1,5 @@
 //! A node serves its host.
-ghost use Rattle.std.specs.Prelude.{◌≡◌, ◌≢◌, ◌⊎◌, true, IfOk, IfErr, OnOk, OnErr, IsErrOf};
+ghost use Rattle.std.specs.Prelude.{◌≡◌, ◌≢◌, ◌⊎◌, ◌↔◌, true, IfOk, IfErr, OnOk, OnErr, IsErrOf};
 ghost use Rattle.scp_device.specs.Device.{Gains, GainsPart, Fails};
 ghost use Rattle.scp_turn.specs.Kv.{Goes, Watched};
 ghost use Rattle.scp_turn.specs.Watch.{notes};
@@ -10,7 +10,6 @@ ghost use Rattle.scp_live.specs.Living.{IsLive};
 
 use crate::answer::answer_all;
 use crate::batch::Batch;
-use crate::fullness::JournalWatch;
 use scp_batches::{Line, Lines};
 use scp_device::{ReportOut, ScriptIn};
 use scp_live::Live;
@@ -27,10 +26,10 @@ fn serve_batch<L: EventLog, W: ReportOut, V: Watch<KvDriver>>(
     writer: &mut W,
     number: u64,
     lines: Vec<Line>,
-    watch: &mut JournalWatch<V>,
+    watch: &mut V,
 ) -> Result<u64, Fault>
     requires live { IsLive live.old.node }
-    ensures served { Goes live.old.node live.new.node (λ _ heard _. Watched (notes V.notes_before V.notes_after) 1 watch.old.watch live.old.node heard live.new.node watch.new.watch × (OnOk result (IsBatch L.holds L.may_leave (λ text. Gains (W.written writer.old) text (W.written writer.new)) number lines.items kept.old kept.new live.old heard live.new) × (IsErrOf result Fault.JournalFull → finds_full heard ≡ true) × OnErr result ((writer.new ≡ writer.old) × StaysDurable L.holds L.may_leave kept.old kept.new ⊎ (IsErrOf result Fault.Device × IsBatch L.holds L.may_leave (λ text. GainsPart (W.written writer.old) text (W.written writer.new)) number lines.items kept.old kept.new live.old heard live.new)))) }
+    ensures served { Goes live.old.node live.new.node (λ _ heard _. Watched (notes V.notes_before V.notes_after) 1 watch.old live.old.node heard live.new.node watch.new × (OnOk result (IsBatch L.holds L.may_leave (λ text. Gains (W.written writer.old) text (W.written writer.new)) number lines.items kept.old kept.new live.old heard live.new) × (IsErrOf result Fault.JournalFull ↔ (finds_full heard ≡ true)) × OnErr result ((writer.new ≡ writer.old) × StaysDurable L.holds L.may_leave kept.old kept.new ⊎ (IsErrOf result Fault.Device × IsBatch L.holds L.may_leave (λ text. GainsPart (W.written writer.old) text (W.written writer.new)) number lines.items kept.old kept.new live.old heard live.new)))) }
     ensures next { IfOk result (λ next. next ≡ number_behind number lines.items) }
     ensures quiet { OnOk result ((L.faults kept.new.log ≡ L.faults kept.old.log) × (W.failures writer.new ≡ W.failures writer.old)) }
     ensures live { OnOk result (IsLive live.new.node) }
@@ -56,21 +55,21 @@ fn serve_batch<L: EventLog, W: ReportOut, V: Watch<KvDriver>>(
 
 /// Serves a host: reads its lines until the input ends. The answers to the lines of one read are written once all their events are kept.
 /// The watch is shown each step of the node. Refused by `Device` if the reader, the writer or the log failed. Refused by `JournalFull`
-/// if a step found the journal full, which fails the node. Refused by `NoMemory`. Refused by `TooLong` if a message that is sent once
-/// more doesn't fit a link, or after 2^64 - 1 reads. After a refusal the node is done, and the events that it received last may not be
-/// kept.
+/// exactly if a step found the journal full, which fails the node. Refused by `NoMemory`. Refused by `TooLong` if a message that is sent
+/// once more doesn't fit a link, or after 2^64 - 1 reads. After a refusal the node is done, and the events that it received last may not
+/// be kept.
 pub fn serve<L: EventLog, R: ScriptIn, W: ReportOut, V: Watch<KvDriver>>(
     alloc: Global,
     live: &mut Live,
     kept: &mut Kept<L>,
     reader: &mut R,
     writer: &mut W,
-    watch: &mut JournalWatch<V>,
+    watch: &mut V,
 ) -> Result<(), Fault>
     requires live { IsLive live.old.node }
     // All lines are answered in order, the answers are written, and what is kept of the lines is on the disk. Even if the call is
     // refused, the ledger theorem still holds, and all that was written answers lines whose events are on the disk.
-    ensures served { Goes live.old.node live.new.node (λ _ heard _. Watched (notes V.notes_before V.notes_after) 1 watch.old.watch live.old.node heard live.new.node watch.new.watch × (OnOk result (HasServed L.holds L.may_leave (R.left reader.old) (W.written writer.old) (W.written writer.new) kept.old kept.new live.old heard live.new) × OnErr result (HasServedPart L.may_leave L.holds result (R.left reader.old) (W.written writer.old) (W.written writer.new) kept.old kept.new live.old heard) × (IsErrOf result Fault.JournalFull → finds_full heard ≡ true))) }
+    ensures served { Goes live.old.node live.new.node (λ _ heard _. Watched (notes V.notes_before V.notes_after) 1 watch.old live.old.node heard live.new.node watch.new × (OnOk result (HasServed L.holds L.may_leave (R.left reader.old) (W.written writer.old) (W.written writer.new) kept.old kept.new live.old heard live.new) × OnErr result (HasServedPart L.may_leave L.holds result (R.left reader.old) (W.written writer.old) (W.written writer.new) kept.old kept.new live.old heard) × (IsErrOf result Fault.JournalFull ↔ (finds_full heard ≡ true)))) }
     ensures live { OnOk result (IsLive live.new.node) }
     // A failure of a device is always reported as `Fault::Device`, and is reported only if one happened.
     ensures hidden { IfErr result (λ fault. fault ≢ Fault.Device → (R.failures reader.new ≡ R.failures reader.old) × (L.faults kept.new.log ≡ L.faults kept.old.log) × (W.failures writer.new ≡ W.failures writer.old)) }

@@ -1,5 +1,5 @@
 //! How a node starts with a log.
-ghost use Rattle.std.specs.Prelude.{◌≡◌, ◌⊎◌, ◌<◌, ◌+◌, ◌++◌, ◌∷◌, [], ℕ, List, true, false, take, drop, IfOk, IfErr, IfSome, IfNone, OnOk, IsErrOf, codes, if◌then◌else◌};
+ghost use Rattle.std.specs.Prelude.{◌≡◌, ◌⊎◌, ◌↔◌, ◌<◌, ◌+◌, ◌++◌, ◌∷◌, [], ℕ, List, true, false, take, drop, IfOk, IfErr, IfSome, IfNone, OnOk, IsErrOf, codes, if◌then◌else◌};
 ghost use Rattle.std.specs.Bool.{OnFalse, OnTrue};
 ghost use Rattle.scp_device.specs.Device.{Fails};
 ghost use Rattle.scp_live_lines.specs.declared.asked.Asked.TheVariants as asked;
@@ -19,8 +19,7 @@ ghost use Rattle.scp_live_process.specs.inside.Replaying.{AddsClose, AddsCloses}
 ghost use Rattle.scp_live.specs.Living.{IsLive};
 
 use crate::batch::Batch;
-use crate::fullness::{JournalWatch, replay_noticed};
-use scp_live::{Live, event_in, name_of};
+use scp_live::{Live, event_in, name_of, replay};
 use scp_live_log::{Entry, EventLog, Kept, LogFault};
 use scp_turn::{Event, KvDriver, Watch};
 use scp_types::Fault;
@@ -80,10 +79,10 @@ fn close<V: Watch<KvDriver>>(
     batch: &mut Batch,
     live: &mut Live,
     link: u8,
-    watch: &mut JournalWatch<V>,
+    watch: &mut V,
 ) -> Result<(), Fault>
     requires live { IsLive live.old.node }
-    ensures closed { Goes live.old.node live.new.node (λ _ heard _. Watched (notes V.notes_before V.notes_after) 1 watch.old.watch live.old.node heard live.new.node watch.new.watch × (OnOk result (AddsClose link live.old heard live.new batch.old batch.new × (live.new.names ≡ live.old.names)) × (IsErrOf result Fault.JournalFull → finds_full heard ≡ true))) }
+    ensures closed { Goes live.old.node live.new.node (λ _ heard _. Watched (notes V.notes_before V.notes_after) 1 watch.old live.old.node heard live.new.node watch.new × (OnOk result (AddsClose link live.old heard live.new batch.old batch.new × (live.new.names ≡ live.old.names)) × (IsErrOf result Fault.JournalFull ↔ (finds_full heard ≡ true)))) }
     ensures live { OnOk result (IsLive live.new.node) }
     ensures unsaid { IsErrOf result Fault.BadConfig → shut.IsNoEventLine live.old.names (shut.close_line live.old.names link) }
     ensures only { IfErr result (λ f. (f ≡ Fault.NoMemory) ⊎ ((f ≡ Fault.JournalFull) ⊎ (f ≡ Fault.BadConfig))) }
@@ -107,10 +106,10 @@ fn close_all<V: Watch<KvDriver>>(
     batch: &mut Batch,
     live: &mut Live,
     links: Vec<u8>,
-    watch: &mut JournalWatch<V>,
+    watch: &mut V,
 ) -> Result<(), Fault>
     requires live { IsLive live.old.node }
-    ensures closed { Goes live.old.node live.new.node (λ _ heard _. Watched (notes V.notes_before V.notes_after) 1 watch.old.watch live.old.node heard live.new.node watch.new.watch × (OnOk result (AddsCloses links.items live.old heard live.new batch.old batch.new) × (IsErrOf result Fault.JournalFull → finds_full heard ≡ true))) }
+    ensures closed { Goes live.old.node live.new.node (λ _ heard _. Watched (notes V.notes_before V.notes_after) 1 watch.old live.old.node heard live.new.node watch.new × (OnOk result (AddsCloses links.items live.old heard live.new batch.old batch.new) × (IsErrOf result Fault.JournalFull ↔ (finds_full heard ≡ true)))) }
     ensures live { OnOk result (IsLive live.new.node) }
     ensures unsaid { IsErrOf result Fault.BadConfig → shut.HasNoCloseLine live.old.names links.items }
     ensures only { IfErr result (λ f. (f ≡ Fault.NoMemory) ⊎ ((f ≡ Fault.JournalFull) ⊎ (f ≡ Fault.BadConfig))) }
@@ -177,16 +176,16 @@ fn may_be_open(live: &Live) -> bool
 }
 
 /// Closes all connections that are open, since none outlives the process, and keeps these events. Returns their entries. Refused by
-/// `JournalFull` if a step found the journal full, by `Device` if the disk failed, by `NoMemory`, by `BadConfig` if the `close` line of
+/// `JournalFull` exactly if a step found the journal full, by `Device` if the disk failed, by `NoMemory`, by `BadConfig` if the `close` line of
 /// an open link can't be the line of an event, or by `AlreadyOpen` if a link may be open still.
 fn close_links<L: EventLog, V: Watch<KvDriver>>(
     alloc: Global,
     live: &mut Live,
     kept: &mut Kept<L>,
-    watch: &mut JournalWatch<V>,
+    watch: &mut V,
 ) -> Result<Vec<Entry>, Fault>
     requires live { IsLive live.old.node }
-    ensures closed { Goes live.old.node live.new.node (λ _ heard _. Watched (notes V.notes_before V.notes_after) 1 watch.old.watch live.old.node heard live.new.node watch.new.watch × (IfOk result (λ closes. shut.AreClosed closes.items live.old heard live.new) × (IsErrOf result Fault.JournalFull → finds_full heard ≡ true))) }
+    ensures closed { Goes live.old.node live.new.node (λ _ heard _. Watched (notes V.notes_before V.notes_after) 1 watch.old live.old.node heard live.new.node watch.new × (IfOk result (λ closes. shut.AreClosed closes.items live.old heard live.new) × (IsErrOf result Fault.JournalFull ↔ (finds_full heard ≡ true)))) }
     ensures live { OnOk result (IsLive live.new.node) }
     ensures kept { IfOk result (λ closes. (header : List ℕ) (ms : List Marked) → IsSettled L.holds L.may_leave header ms kept.old → IsSettled L.holds L.may_leave header (ms ++ batch_of closes.items) kept.new) }
     ensures stays { StaysDurable L.holds L.may_leave kept.old kept.new }
@@ -219,17 +218,18 @@ fn close_links<L: EventLog, V: Watch<KvDriver>>(
 /// Plays what the log says again, and then closes all connections that are open, since none outlives the process. The watch is shown
 /// each step. Returns how many events the log has then. Refused by `Another` for the log of another configuration. Refused by `Damaged`
 /// if the entry at that index doesn't fit the ones before it or says no event, or if something else is sent for it. Refused by `Failed`
-/// if the disk failed, a step found the journal full, or memory ran out. After a refusal, too, all that was kept is in the log.
+/// if the disk failed or memory ran out, and with `JournalFull` exactly if a step found the journal full. After a refusal, too, all that
+/// was kept is in the log.
 pub fn restart<L: EventLog, V: Watch<KvDriver>>(
     alloc: Global,
     live: &mut Live,
     kept: &mut Kept<L>,
     header: &[u8],
-    watch: &mut JournalWatch<V>,
+    watch: &mut V,
 ) -> Result<usize, LogFault>
     requires live { IsLive live.old.node }
     requires line { ¬ (IsLine header.now) }
-    ensures restarted { Goes live.old.node live.new.node (λ _ heard _. Watched (notes V.notes_before V.notes_after) 1 watch.old.watch live.old.node heard live.new.node watch.new.watch × (IfOk result (IsRestarted L.holds L.may_leave header.now kept.old kept.new live.old heard live.new) × IfErr result (IsStartFault L.holds L.may_leave L.faults header.now kept.old kept.new live.old heard live.new))) }
+    ensures restarted { Goes live.old.node live.new.node (λ _ heard _. Watched (notes V.notes_before V.notes_after) 1 watch.old live.old.node heard live.new.node watch.new × (IfOk result (IsRestarted L.holds L.may_leave header.now kept.old kept.new live.old heard live.new) × IfErr result (IsStartFault L.holds L.may_leave L.faults header.now kept.old kept.new live.old heard live.new) × (IsErrOf result (LogFault.Failed Fault.JournalFull) ↔ (finds_full heard ≡ true)))) }
     ensures live { OnOk result (IsLive live.new.node) }
     // Even after a refusal, all that was kept is in the log.
     ensures stays { StaysKept L.holds L.may_leave header.now kept.old kept.new }
@@ -238,7 +238,7 @@ pub fn restart<L: EventLog, V: Watch<KvDriver>>(
         Ok(entries) => entries,
         Err(fault) => return Err(fault),
     };
-    match replay_noticed(alloc, live, entries.as_slice(), watch) {
+    match replay(alloc, live, entries.as_slice(), watch) {
         Ok(()) => {}
         Err(fault) => return Err(fault),
     }

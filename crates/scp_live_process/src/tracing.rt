@@ -6,7 +6,6 @@ ghost use Rattle.scp_live_process.specs.Stands.{AreNamesIn};
 ghost use Rattle.scp_live_process.specs.Ending.{streams, StopsTraced, EndsBy, EndsUntraced};
 ghost use Rattle.scp_live_process.specs.Starting.{IsTracedRun, TracesRun};
 
-use crate::fullness::JournalWatch;
 use crate::process::run_settings;
 use crate::stand::names_of;
 use scp_device::{ReportOut, ScriptIn};
@@ -26,19 +25,19 @@ fn run_told<L: EventLog + Drop, R: ScriptIn, W: ReportOut, T: ReportOut + Drop>(
     log: L,
     reader: &mut R,
     writer: &mut W,
-    watch: &mut JournalWatch<TracingWatch<T>>,
+    watch: &mut TracingWatch<T>,
 ) -> Result<(), LogFault>
-    requires names { AreNamesIn settings.now.names.items watch.old.watch.names }
-    requires none { watch.old.watch.facts.tellings ≡ [] }
-    ensures ran { OnOk result (TracesRun L.holds L.may_leave settings.now (R.left reader.old) (W.written writer.old) (W.written writer.new) log watch.old.watch.written watch.new.watch.written) }
-    ensures stopped { IfErr result (StopsTraced L.holds L.may_leave L.faults settings.now (streams (R.left reader.old) (R.failures reader.old) (W.written writer.old) (W.failures writer.old)) (streams (R.left reader.new) (R.failures reader.new) (W.written writer.new) (W.failures writer.new)) log watch.new.watch.failures) }
+    requires names { AreNamesIn settings.now.names.items watch.old.names }
+    requires none { watch.old.facts.tellings ≡ [] }
+    ensures ran { OnOk result (TracesRun L.holds L.may_leave settings.now (R.left reader.old) (W.written writer.old) (W.written writer.new) log watch.old.written watch.new.written) }
+    ensures stopped { IfErr result (StopsTraced L.holds L.may_leave L.faults settings.now (streams (R.left reader.old) (R.failures reader.old) (W.written writer.old) (W.failures writer.old)) (streams (R.left reader.new) (R.failures reader.new) (W.written writer.new) (W.failures writer.new)) log watch.new.failures) }
 {
     what_is_traced_is_what_happened();
     match run_settings(alloc, settings, log, reader, writer, watch) {
         Ok(()) => {}
         Err(fault) => return Err(fault),
     }
-    match watch.watch.fault() {
+    match watch.fault() {
         Some(fault) => Err(LogFault::Failed(fault)),
         None => Ok(()),
     }
@@ -51,12 +50,12 @@ fn run_status<L: EventLog + Drop, R: ScriptIn, W: ReportOut, T: ReportOut + Drop
     log: L,
     reader: &mut R,
     writer: &mut W,
-    watch: &mut JournalWatch<TracingWatch<T>>,
+    watch: &mut TracingWatch<T>,
 ) -> u8
-    requires names { AreNamesIn settings.now.names.items watch.old.watch.names }
-    requires none { watch.old.watch.facts.tellings ≡ [] }
-    ensures ran { result ≡ 0 → TracesRun L.holds L.may_leave settings.now (R.left reader.old) (W.written writer.old) (W.written writer.new) log watch.old.watch.written watch.new.watch.written }
-    ensures stopped { result ≢ 0 → EndsBy (λ stopped fault. StopsTraced L.holds L.may_leave L.faults settings.now (streams (R.left reader.old) (R.failures reader.old) (W.written writer.old) (W.failures writer.old)) stopped log watch.new.watch.failures fault) (streams (R.left reader.new) (R.failures reader.new) (W.written writer.new) (W.failures writer.new)) result }
+    requires names { AreNamesIn settings.now.names.items watch.old.names }
+    requires none { watch.old.facts.tellings ≡ [] }
+    ensures ran { result ≡ 0 → TracesRun L.holds L.may_leave settings.now (R.left reader.old) (W.written writer.old) (W.written writer.new) log watch.old.written watch.new.written }
+    ensures stopped { result ≢ 0 → EndsBy (λ stopped fault. StopsTraced L.holds L.may_leave L.faults settings.now (streams (R.left reader.old) (R.failures reader.old) (W.written writer.old) (W.failures writer.old)) stopped log watch.new.failures fault) (streams (R.left reader.new) (R.failures reader.new) (W.written writer.new) (W.failures writer.new)) result }
 {
     match run_told(alloc, settings, log, reader, writer, watch) {
         Ok(()) => 0,
@@ -72,17 +71,10 @@ fn names_in(alloc: Global, settings: &Settings) -> Result<Names, AllocError>
 }
 
 /// A watch that writes to this trace, with these names.
-fn watch_of<T: ReportOut + Drop>(
-    alloc: Global,
-    names: Names,
-    trace: T,
-) -> JournalWatch<TracingWatch<T>>
-    ensures { result.watch ≡ untold names (T.written trace) (T.failures trace) }
+fn watch_of<T: ReportOut + Drop>(alloc: Global, names: Names, trace: T) -> TracingWatch<T>
+    ensures { result ≡ untold names (T.written trace) (T.failures trace) }
 {
-    JournalWatch {
-        watch: TracingWatch::new(alloc, names, trace),
-        is_full: false,
-    }
+    TracingWatch::new(alloc, names, trace)
 }
 
 /// Runs a node with this configuration as `run_node` does, and writes what happens in each step to the trace, right after the step. The
@@ -110,6 +102,5 @@ pub fn run_traced<L: EventLog + Drop, R: ScriptIn, W: ReportOut, T: ReportOut + 
     };
     let mut watch = watch_of(alloc, names, trace);
     let status = run_status(alloc, &settings, log, reader, writer, &mut watch);
-    let JournalWatch { watch, .. } = watch;
     (status, watch.into_trace())
 }

@@ -334,6 +334,7 @@ module _ {D : Type 0} (says : Says D) where
       let is : w ≡ u = λ i. record {
         config = sym config i;
         failed = (g.runs ∙ sym f.runs) i;
+        fault = (g.whole ∙ sym f.whole) i;
         links = sym h.links i;
         inbox = sym h.inbox.0 i;
         inbox_room = sym h.inbox.1 i;

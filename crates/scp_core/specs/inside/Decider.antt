@@ -2,6 +2,8 @@
 use Rattle.std.specs.Prelude.{ℕ, ◌≡◌, ◌≢◌, Bool, true, false, List, [], ◌∷◌, ◌++◌, Option, Some, None, length, option_to_list, Result, Ok, Err}
 use Rattle.std.specs.List.Sorted.{IsPermutation}
 use Rattle.scp_driver.specs.Driver.{Says}
+use Rattle.scp_types.specs.declared.fault.Fault.{Fault}
+use Rattle.scp_types.specs.declared.fault.Fault.TheVariants as faults
 use Rattle.scp_types.specs.declared.names.NodeId.{NodeId}
 use Rattle.scp_quorum.specs.QuorumTree.{QuorumTree}
 use Rattle.scp_envelope.specs.declared.statement.Envelope.{Envelope}
@@ -26,6 +28,7 @@ use Rattle.scp_ledger.specs.By.{TakesBy, TellsBy, RunsBy}
 
 pub record DeciderView (D : Type 0) : Type 0 where
   pub failed : Bool
+  pub fault : Option Fault
   pub ledger : LedgerView D
   pub hand : Option Onward
   pub last_command : Option CommandFate
@@ -38,6 +41,7 @@ module _ {D : Type 0} where
   abbrev pub new_decider : NodeId → QuorumTree → D → List NodeId → ℕ → DeciderView D
   new_decider me local driver peers room = record {
     failed = false;
+    fault = None;
     ledger = nothing_taken me local driver peers 1;
     hand = None;
     last_command = None;
@@ -48,7 +52,7 @@ module _ {D : Type 0} where
   }
 
   abbrev pub fail : DeciderView D → DeciderView D
-  fail v = record v { failed = true }
+  fail v = record v { failed = true; fault = Some faults.NoMemory }
 
 module _ {D : Type 0} (says : Says D) where
   -- while it runs, what was decided is what the applier took, then what waits in the queue, then the hand
@@ -82,8 +86,8 @@ module _ {D : Type 0} (says : Says D) where
   -- the slot stage takes a thing, and what goes out is put into the outboxes
   abbrev pub Decides : DeciderView D → List OutboxView → Ready → Reply → DeciderView D → List OutboxView → Type 0
   Decides old boxes x Moved new after' = (took : Took) × TakesBy says old.ledger x took new.ledger × TellsBy says old.ledger x took × IsLedger new.ledger × RunsBy says new.ledger × (new ≡ record old { ledger = new.ledger; hand = took.onward; last_command = took.command; last_said = said_in took.outgoing }) × HandsEach boxes took.outgoing after'
-  Decides old boxes x JournalFull new after' = (adds_entry x ≡ true) × (length old.ledger.journal ≡ 1000000) × Keeps old new
-  Decides old boxes x NoMemory new after' = (¬ ((adds_entry x ≡ true) × (length old.ledger.journal ≡ 1000000))) × Keeps old new
+  Decides old boxes x JournalFull new after' = (adds_entry x ≡ true) × (length old.ledger.journal ≡ 1000000) × Keeps old new × (new.fault ≡ Some faults.JournalFull)
+  Decides old boxes x NoMemory new after' = (¬ ((adds_entry x ≡ true) × (length old.ledger.journal ≡ 1000000))) × Keeps old new × (new.fault ≡ Some faults.NoMemory)
   Decides old boxes x reply new after' = ⊥
 
 module _ {D : Type 0} where
@@ -107,5 +111,5 @@ module _ {D : Type 0} where
   abbrev pub Applies : DeciderView D → Result (Option (ℕ × Message)) Reply → DeciderView D → Type 0
   Applies old (Err Idle) new = (old.queue ≡ []) × (new ≡ old)
   Applies old (Ok answer) new = AppliesNext old answer new
-  Applies old (Err NoMemory) new = (old.queue ≢ []) × Keeps old new
+  Applies old (Err NoMemory) new = (old.queue ≢ []) × Keeps old new × (new.fault ≡ Some faults.NoMemory)
   Applies old (Err reply) new = ⊥

@@ -19,6 +19,7 @@ module _ {D : Type 0} (says : Says D) where
   pub record IsNew (v : NodeView D) : Type 0 where
     pub fit : IsFit v.config.me v.config.peers v.config.capacities
     pub runs : v.failed ≡ false
+    pub fault : v.fault ≡ None
     pub links : v.links ≡ replicate (length v.config.peers) (new_link v.config.capacities.link)
     pub inbox : (v.inbox ≡ []) × (v.inbox_room ≡ v.config.capacities.inbox)
     pub ready : (v.ready ≡ []) × (v.ready_room ≡ v.config.capacities.ready)

@@ -4,8 +4,8 @@ use Rattle.scp_types.specs.declared.fault.Fault.TheVariants as fault
 use Rattle.scp_live_log.specs.declared.kept.LogFault.{LogFault}
 use Rattle.scp_live_log.specs.declared.kept.LogFault.TheVariants.{Another, Damaged, Failed}
 
--- Why the entry at this index isn't played: it doesn't fit, memory ran out, or the node failed.
+-- Why the entry at this index isn't played: it doesn't fit, memory ran out, or the journal is full.
 abbrev pub IsReplayFault : ℕ → LogFault → Type 0
 IsReplayFault place Another = ⊥
 IsReplayFault place (Damaged at) = at ≡ place
-IsReplayFault place (Failed f) = (f ≡ fault.NoMemory) ⊎ (f ≡ fault.Failed)
+IsReplayFault place (Failed f) = (f ≡ fault.NoMemory) ⊎ (f ≡ fault.JournalFull)

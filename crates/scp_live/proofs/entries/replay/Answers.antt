@@ -7,7 +7,7 @@ use Rattle.scp_live_log.specs.declared.kept.LogFault.TheVariants.{Failed}
 use Rattle.scp_live.specs.Replays.{IsReplayed, AreReplayed}
 use Rattle.scp_live.specs.inside.Replaying.{IsReplayFault}
 use Rattle.scp_live.proofs.Going.{heard_nothing, heard_as}
-use Rattle.scp_live.proofs.Replaying.{Comes, one_replayed, refused_at}
+use Rattle.scp_live.proofs.Replaying.{Comes, one_replayed, refused_at, all_replayed}
 use Rattle.scp_live.proofs.entries.replay.Goals as goal
 
 pub loop-place-init : goal.loop-place-init
@@ -21,7 +21,11 @@ loop-place-init g c =
 pub returns-in-Err-clause-replayed : goal.returns-in-Err-clause-replayed
 returns-in-Err-clause-replayed g c =
     refused_at (notes g.W.Watch.notes_before g.W.Watch.notes_after) c.in-Err.fault c.args.entries.now c.loop-place.place c.index-entries-place.result c.args.live.now c.loop-place.live c.replay_entry.new.live c.args.watch.now c.loop-place.watch c.replay_entry.new.watch
-    (omega arith) c.index-entries-place.is c.in-Err.ensures.only c.loop-place.invariant.replayed c.in-Err.ensures.replayed
+    (omega arith) c.index-entries-place.is c.in-Err.ensures.only c.loop-place.invariant.live.runs c.loop-place.invariant.replayed c.in-Err.ensures.replayed
+
+pub returns-clause-replayed : goal.returns-clause-replayed
+returns-clause-replayed g c =
+    all_replayed (notes g.W.Watch.notes_before g.W.Watch.notes_after) c.args.entries.now c.loop-place.place c.args.live.now c.loop-place.live c.args.watch.now c.loop-place.watch (omega arith) c.loop-place.invariant.live.runs c.loop-place.invariant.replayed
 
 pub returns-in-Err-clause-only : goal.returns-in-Err-clause-only
 returns-in-Err-clause-only g c fault is =

@@ -7,7 +7,7 @@ use Rattle.scp_live_process.proofs.answer.done.Goals as goal
 
 pub returns-in_default : goal.returns-in_default
 returns-in_default g c = record {
-  done = seen_nothing (notes g.V.Watch.notes_before g.V.Watch.notes_after) c.args.watch.now.watch c.args.live.now.node (λ heard. Told c.reply.result heard (Adds (IsDone c.args.asked c.args.line.items) c.args.live.now heard c.args.live.now c.args.batch.now c.reply.new.self))
+  done = seen_nothing (notes g.V.Watch.notes_before g.V.Watch.notes_after) c.args.watch.now c.args.live.now.node (λ heard. Told c.reply.result heard (Adds (IsDone c.args.asked c.args.line.items) c.args.live.now heard c.args.live.now c.args.batch.now c.reply.new.self))
       (asked_quietly c.reply.result c.args.asked c.args.line.items c.args.live.now c.args.batch.now c.reply.new.self (no_event c.args.asked c.in_default.not-Event) c.reply.ensures.told c.reply.ensures.only);
   live = on_any c.reply.result c.requires.live;
   only = one_of_three c.reply.result c.reply.ensures.only;

@@ -13,7 +13,7 @@ returns-in-Err-header_of-clause-stopped g c = inl (record { same = refl; why = i
 
 pub returns-clause-ran : goal.returns-clause-ran
 returns-clause-ran g c =
-    runs_as (notes g.V.Watch.notes_before g.V.Watch.notes_after) c.args.watch.now.watch c.run.new.watch.watch g.L.EventLog.holds g.L.EventLog.may_leave c.run.result c.args.settings.now _ _ _ c.args.log c.in-Ok.live c.run.new.live c.new-kept.result c.run.new.kept c.as_slice.result.now
+    runs_as (notes g.V.Watch.notes_before g.V.Watch.notes_after) c.args.watch.now c.run.new.watch g.L.EventLog.holds g.L.EventLog.may_leave c.run.result c.args.settings.now _ _ _ c.args.log c.in-Ok.live c.run.new.live c.new-kept.result c.run.new.kept c.as_slice.result.now
     (c.as_slice.ensures.value ∙ c.in-Ok-header_of.ensures.is) c.in-Ok.ensures.new c.new-kept.ensures.log c.each_node_holds_its_ledger.ensures.ledger c.each_node_holds_its_headline.ensures.headline c.run.ensures.ran
 
 pub returns-clause-stopped : goal.returns-clause-stopped

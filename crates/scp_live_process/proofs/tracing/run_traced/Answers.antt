@@ -25,7 +25,7 @@ returns-in-Err-names_in-clause-stopped g c other =
 
 pub returns-clause-ran : goal.returns-clause-ran
 returns-clause-ran g c zero =
-    traced_run g.L.EventLog.holds g.L.EventLog.may_leave c.args.config.now c.in-Ok.settings _ _ _ c.args.log c.watch_of-watch.result.watch c.run_status-status.new.watch.watch (g.T.ReportOut.written c.args.trace) (g.T.ReportOut.written c.into_trace.result)
+    traced_run g.L.EventLog.holds g.L.EventLog.may_leave c.args.config.now c.in-Ok.settings _ _ _ c.args.log c.watch_of-watch.result c.run_status-status.new.watch (g.T.ReportOut.written c.args.trace) (g.T.ReportOut.written c.into_trace.result)
     c.in-Ok.ensures.read (ap (λ (w : TraceView). w.written) c.watch_of-watch.ensures) c.into_trace.ensures.written (c.run_status-status.ensures.ran zero)
 
 pub returns-clause-stopped : goal.returns-clause-stopped

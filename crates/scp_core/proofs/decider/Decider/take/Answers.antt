@@ -1,4 +1,5 @@
 use Rattle.std.proofs.Common.{◌∙◌, ap, sym}
+use Rattle.std.specs.Prelude.{is_some}
 use Rattle.scp_core.specs.inside.Decider.{DeciderView}
 use Rattle.scp_core.proofs.Deciding.{sound_take}
 use Rattle.scp_core.proofs.decider.Decider.take.Goals as goal
@@ -20,7 +21,8 @@ returns-in-Ok g c =
       t.known,
       t.running,
       rw (← c.self.view_is) (λ i. record {
-        failed = c.self.inside.failed;
+        failed = is_some c.self.inside.failed;
+        fault = c.self.inside.failed;
         ledger = c.take.new.self;
         hand = sym t.onward_is i;
         last_command = sym t.command_is i;
