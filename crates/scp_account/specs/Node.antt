@@ -26,7 +26,7 @@ abbrev pub key_json : List ℕ × List ℕ → Data
 key_json entry = object (member (codes "key") (digits entry.0) (member (codes "value") (digits entry.1) no_members))
 
 -- The account of a node that took one step after another, and at which this happened. It has the applied slots from slot 1 on, and the
--- decisions in their order, with the entries that justify them. It has the node's id, its links, at most seven, what waits, its own quorum
+-- decisions in their order, with the entries that justify them. It has the node's id, its links, at most a hundred, what waits, its own quorum
 -- set, and its state, ascending by key. It has what its slot stage took, in order, and the number of ticks.
 abbrev pub serial_json : ReportView → List Happening → Data
 serial_json r happenings =

@@ -4,7 +4,7 @@
 //! - `account` returns one JSON document, which is determined by how the nodes ran, by their records and by what was kept of their steps: of
 //!   nodes of a script that take one step after another, of those whose stages ran in threads, and of a live node;
 //! - it leaves out no entry of a journal, no decision, no applied slot, and no key of a state that can be read;
-//! - it leaves out nothing that was kept as sent or as received on a node's links, of which there are at most seven;
+//! - it leaves out nothing that was kept as sent or as received on a node's links, of which there are at most a hundred;
 //! - what a watch keeps of a script's run is what happened in its steps (`a_run_is_kept_as_it_happened`);
 //! - the entries that it names to justify a certificate are those by which the headline says what a certificate is.
 #![tactic(auto)]

@@ -3,6 +3,7 @@ use Rattle.std.proofs.Common.{◌≡◌, ℕ, ◌+◌, ◌-◌, ◌^◌, Bool, t
 use Rattle.std.specs.Prelude.{Option, Some, None, Contains, drop, nat_lt, if◌then◌else◌}
 use Rattle.std.specs.Option.{ForSome}
 use Rattle.std.proofs.lemmas.List.Elements.{All-nil, All-append}
+use Rattle.scp_types.specs.declared.limits.TheConstants.{WINDOW}
 use Rattle.scp_envelope.specs.declared.statement.Pledges.{Pledges}
 use Rattle.scp_envelope.specs.declared.statement.Statement.{Statement}
 use Rattle.scp_wire.specs.declared.message.Message.{Message}
@@ -44,7 +45,7 @@ module _ {D : Type 0} (who : Who) (v : LedgerView D) (well : IsWell who v) where
       at = subst (IsOwnAt who.me d.slot.0) is (well.own d there)
 
   decided_says : All Says (decided_again v.decisions)
-  decided_says = all_flat Says (λ (d : Decision). own_of d.origin) (drop (length v.decisions - 16) v.decisions) (λ k e below. own_says (get_or (drop (length v.decisions - 16) v.decisions) k e) (dropped_is_there (length v.decisions - 16) v.decisions k e below) (get_or (drop (length v.decisions - 16) v.decisions) k e).origin refl)
+  decided_says = all_flat Says (λ (d : Decision). own_of d.origin) (drop (length v.decisions - WINDOW) v.decisions) (λ k e below. own_says (get_or (drop (length v.decisions - WINDOW) v.decisions) k e) (dropped_is_there (length v.decisions - WINDOW) v.decisions k e below) (get_or (drop (length v.decisions - WINDOW) v.decisions) k e).origin refl)
 
   -- ---- open slots
 
@@ -81,4 +82,4 @@ module _ {D : Type 0} (who : Who) (v : LedgerView D) (well : IsWell who v) where
   slots_say link (suc k) = All-append Says (slots_again v link k) (again_at v link (v.lowest + k)) (slots_say link k) (at_says link (v.lowest + k))
 
   pub again_current : (link : ℕ) → All (λ m. ForSome (statement_of m) (IsCurrent who v)) (again_of v link)
-  again_current link = All-append Says (decided_again v.decisions) (slots_again v link 16) decided_says (slots_say link 16)
+  again_current link = All-append Says (decided_again v.decisions) (slots_again v link WINDOW) decided_says (slots_say link WINDOW)

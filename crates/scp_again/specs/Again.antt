@@ -1,5 +1,6 @@
 -- What a node sends once more to a peer, because a lost connection may have lost it (this project's profile).
 use Rattle.std.specs.Prelude.{ℕ, zero, suc, ◌+◌, ◌-◌, ◌^◌, List, [], ◌∷◌, ◌++◌, Option, Some, None, length, drop, flat_map, nat_lt, if◌then◌else◌}
+use Rattle.scp_types.specs.declared.limits.TheConstants.{WINDOW}
 use Rattle.scp_types.specs.declared.names.NodeId.{NodeId}
 use Rattle.scp_envelope.specs.declared.statement.Envelope.{Envelope as Enveloped}
 use Rattle.scp_envelope.specs.declared.statement.Pledges.{Pledges}
@@ -29,7 +30,7 @@ last_of n xs = drop (length xs - n) xs
 
 -- The own EXTERNALIZE of each of the last 16 decisions that has one.
 abbrev pub decided_again : List Decision → List Message
-decided_again decisions = flat_map (λ (d : Decision). own_of d.origin) (last_of 16 decisions)
+decided_again decisions = flat_map (λ (d : Decision). own_of d.origin) (last_of WINDOW decisions)
 
 -- A node's own statement of a slot as a message, without a signature.
 abbrev pub own_message : NodeId → ℕ → Pledges → Message
@@ -62,4 +63,4 @@ module _ {D : Type 0} where
   -- What is sent once more on a link. Of the last 16 decisions, the EXTERNALIZE of each that the node's own machine made. For each of
   -- the 16 open slots, the request for its record, and the own statements that were emitted last.
   abbrev pub again_of : LedgerView D → ℕ → List Message
-  again_of v link = decided_again v.decisions ++ slots_again v link 16
+  again_of v link = decided_again v.decisions ++ slots_again v link WINDOW

@@ -11,6 +11,7 @@ use Rattle.std.proofs.lemmas.List.Folds.{list_any_at}
 use Rattle.std.proofs.lemmas.List.Quantifiers.{all_pairs_remove, all_pairs_push}
 use Rattle.std.proofs.lemmas.List.Sorted.{IsPermutation-more, IsPermutation-refl}
 use Rattle.std.proofs.lemmas.List.Sums.{fails_before_first}
+use Rattle.scp_types.specs.declared.limits.TheConstants.{WINDOW}
 use Rattle.scp_ledger.specs.declared.journal.Decision.{Decision}
 use Rattle.scp_ledger.specs.Decisions.{is_at, is_decided, OnePerSlot}
 use Rattle.scp_apply.specs.declared.slots.Slots.{Slots}
@@ -79,7 +80,7 @@ goes_on after' start before now state place next then' within at one same h =
       is_applied = record {
         in_order = rw (same, one.applied) (AreInOrder-push (now.before + 1) applied d (omega (arith, slot)) h.is_applied.in_order);
         above = subst (λ (n : ℕ). All (λ (x : Decision). n ≤ x.slot.0) next.buffer.items) (sym further) (rw one.buffer (all_but (λ (x : Decision). next_in now + 1 ≤ x.slot.0) buffer place d within (λ k lt ne. let here = h.is_applied.above k d lt in let far = other k lt ne in omega (arith, here, far))));
-        near = subst (λ (n : ℕ). All (λ (x : Decision). x.slot.0 < n + 16) next.buffer.items) (sym further) (rw one.buffer (all_but (λ (x : Decision). x.slot.0 < next_in now + 1 + 16) buffer place d within (λ k lt ne. let here = h.is_applied.near k d lt in omega (arith, here))));
+        near = subst (λ (n : ℕ). All (λ (x : Decision). x.slot.0 < n + WINDOW) next.buffer.items) (sym further) (rw one.buffer (all_but (λ (x : Decision). x.slot.0 < next_in now + 1 + WINDOW) buffer place d within (λ k lt ne. let here = h.is_applied.near k d lt in omega (arith, here))));
         one = rw one.buffer (all_pairs_remove (λ (x y : Decision). x.slot.0 ≢ y.slot.0) buffer place within h.is_applied.one);
       };
       before = same ∙ h.before;
@@ -125,6 +126,6 @@ pub buffered : (old new : Slots) (d : Decision) → IsSound old → IsInWindow (
 buffered old new d h w before applied buffer = record {
   in_order = rw (before, applied) h.is_applied.in_order;
   above = rw (before, applied, buffer) (All-push (λ (x : Decision). next_in old ≤ x.slot.0) old.buffer.items d h.is_applied.above w.from);
-  near = rw (before, applied, buffer) (All-push (λ (x : Decision). x.slot.0 < next_in old + 16) old.buffer.items d h.is_applied.near w.near);
+  near = rw (before, applied, buffer) (All-push (λ (x : Decision). x.slot.0 < next_in old + WINDOW) old.buffer.items d h.is_applied.near w.near);
   one = rw buffer (all_pairs_push (λ (x y : Decision). x.slot.0 ≢ y.slot.0) old.buffer.items d h.is_applied.one (λ k x lt. not_there d.slot.0 old.buffer.items k x w.fresh lt));
 }

@@ -1,6 +1,7 @@
 -- What clients see of an applier, and what it does with each thing that it takes.
 use Rattle.std.specs.Prelude.{ℕ, ◌+◌, ◌<◌, ◌≤◌, ◌≡◌, Bool, false, List, [], ◌∷◌, ◌++◌, Option, None, All, length, option_map}
 use Rattle.std.specs.List.Sorted.{IsPermutation}
+use Rattle.scp_types.specs.declared.limits.TheConstants.{WINDOW}
 use Rattle.scp_wire.specs.declared.message.Message.{Message}
 use Rattle.scp_wire.specs.declared.message.Message.TheVariants.{Record}
 use Rattle.scp_ledger.specs.declared.journal.Decision.{Decision}
@@ -27,18 +28,18 @@ pub record IsApplier (v : ApplierView) : Type 0 where
 -- the slot is one of the 16 from the next on, but isn't the next
 pub record IsLater (next slot : ℕ) : Type 0 where
   pub later : next < slot
-  pub near : slot < next + 16
+  pub near : slot < next + WINDOW
 
 -- only the 15 slots after the next are buffered, and no slot twice
 pub record IsRunning (v : ApplierView) : Type 0 where
   pub in_window : All (λ d. IsLater (next_of v) d.slot.0) v.buffer
   pub one : OnePerSlot v.buffer
-  pub few : length v.buffer ≤ 16
+  pub few : length v.buffer ≤ WINDOW
 
 -- a slot whose decision can be taken: one of the 16 from the next on, which isn't buffered
 pub record IsInWindow (v : ApplierView) (slot : ℕ) : Type 0 where
   pub from : next_of v ≤ slot
-  pub near : slot < next_of v + 16
+  pub near : slot < next_of v + WINDOW
   pub fresh : is_decided slot v.buffer ≡ false
 
 -- what the caller may give: a decision for one of the 16 slots from the next on that isn't buffered, or any request for a record

@@ -8,8 +8,8 @@ ghost use Rattle.scp_apply.specs.Applier.{IsInWindow, CanTake, Takes};
 ghost use Rattle.scp_apply.specs.inside.Slots.{slots_view, next_in, IsApplied, IsSound, IsMade, AppliesOne, Advances, Enters};
 
 use scp_driver::Application;
-use scp_ledger::{DECIDED_LIMIT, Onward, SharedDecision, WINDOW};
-use scp_types::{Fault, Slot, Value};
+use scp_ledger::{DECIDED_LIMIT, Onward, SharedDecision};
+use scp_types::{Fault, Slot, Value, WINDOW};
 use scp_wire::Message;
 use std::alloc::Global;
 

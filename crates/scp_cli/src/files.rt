@@ -1,8 +1,8 @@
 //! Files that are read, and what is reported of them to people and hosts.
 
-use scp_device::{SCRIPT_LIMIT, ScriptIn, read_script, write_text};
+use scp_device::{ScriptIn, read_script, write_text};
 use scp_prompt::{Cause, Failure, Stream, Unopened, status, write_failure};
-use scp_types::Fault;
+use scp_types::{Fault, SCRIPT_LIMIT};
 use std::io::ErrorKind;
 use std::{fs, io};
 

@@ -1,5 +1,6 @@
 -- Why commands fail (this project's profile).
 use Rattle.std.specs.Prelude.{ℕ, ◌+◌, ◌≡◌, ◌⊎◌, ◌≤◌, ◌<◌, Bool, true, false, List, [], ◌∷◌, ◌++◌, All, length, Some, None}
+use Rattle.scp_types.specs.declared.limits.TheConstants.{SCRIPT_LIMIT}
 use Rattle.scp_gather.specs.Kv.{NodeReport}
 use Rattle.scp_network.specs.Network.{NetworkView}
 use Rattle.scp_script.specs.declared.command.Command.{Command}
@@ -64,7 +65,7 @@ pub record IsBadInputAt (input : List ℕ) (failure : Failure) : Type 0 where
 
 -- The shorthands of the input weigh more than the limit. The failure is `TooLong` with 1,048,576.
 abbrev pub IsHeavy : List ℕ → Failure → Type 0
-IsHeavy input failure = (failure ≡ TooLong 1048576) × (LINE_LIMIT < weight_in (said_in input))
+IsHeavy input failure = (failure ≡ TooLong SCRIPT_LIMIT) × (LINE_LIMIT < weight_in (said_in input))
 
 -- why an input isn't a script: out of memory, the weight of its shorthands, or its first bad line
 abbrev pub IsNoScript : List ℕ → Failure → Type 0

@@ -1,5 +1,7 @@
 -- What a command writes, and where it writes it (this project's profile).
 use Rattle.std.specs.Prelude.{ℕ, ◌≡◌, ◌⊎◌, ◌≤◌, ◌<◌, Bool, true, false, List, [], ◌∷◌, ◌++◌, length, Option, Some, None, IfSome, string_bytes}
+use Rattle.scp_prompt.specs.declared.bytes.TheConstants.{LONG_LIMIT}
+use Rattle.scp_types.specs.declared.limits.TheConstants.{SCRIPT_LIMIT}
 use Rattle.scp_device.specs.Device.{Gains, Fails as HasFailed}
 use Rattle.scp_prompt.specs.declared.asked.Task.{Task}
 use Rattle.scp_prompt.specs.declared.asked.Task.TheVariants.{Check, Trace, Slot, Hex, Text, Decode, Encode}
@@ -21,11 +23,11 @@ use Rattle.scp_command.specs.Answers.{lines_of}
 
 -- The most bytes of a task's input: 16 MiB if the input is written in another form, else 1 MiB.
 abbrev pub limit_of : Task → ℕ
-limit_of Hex = 16777216
-limit_of Text = 16777216
-limit_of (Decode coding) = 16777216
-limit_of (Encode coding) = 16777216
-limit_of task = 1048576
+limit_of Hex = LONG_LIMIT
+limit_of Text = LONG_LIMIT
+limit_of (Decode coding) = LONG_LIMIT
+limit_of (Encode coding) = LONG_LIMIT
+limit_of task = SCRIPT_LIMIT
 
 -- the exit status: 0 without notices, else 4
 abbrev pub status_of : List ℕ → ℕ

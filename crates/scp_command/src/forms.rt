@@ -10,13 +10,12 @@ ghost use Rattle.scp_command.specs.Answers.{IsJust, IsSlotAnswer, Answers, lines
 ghost use Rattle.scp_command.specs.Causes.{IsNoSlotDigits, IsNoHexBy, Fails};
 
 use crate::answer::Answer;
-use crate::given::SCRIPT_LIMIT;
 use scp_device::{BadLine, BadWord, ReadFault};
 use scp_prompt::{Failure, Task};
 use scp_script_short::{HexError, hex};
 use scp_script_slot::{play, read_slot_script, reason_of};
 use scp_script_text::{Form, Kind, is_slot_script, rewrite};
-use scp_types::Fault;
+use scp_types::{Fault, SCRIPT_LIMIT};
 use std::alloc::Global;
 
 /// Why a script isn't written in hex digits.

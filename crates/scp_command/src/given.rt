@@ -12,11 +12,8 @@ use scp_notices::PlayFault;
 use scp_prompt::{Failure, Stop};
 use scp_script_check::{Script, read};
 use scp_script_short::{Expanded, expand};
-use scp_types::Fault;
+use scp_types::{Fault, SCRIPT_LIMIT};
 use std::alloc::{AllocError, Global};
-
-/// The most bytes of a script (this project's profile).
-pub const SCRIPT_LIMIT: usize = 1_048_576;
 
 /// A script whose shorthands were expanded into their lines.
 #[derive(Drop)]

@@ -8,12 +8,12 @@ ghost use Rattle.scp_command.specs.inside.Plain.{IsTelling, IsRunTelling, IsTell
 use crate::forms::played_slot;
 use crate::given::failure_of;
 use crate::serving::read_short;
-use scp_device::{ReportOut, SCRIPT_LIMIT, ScriptIn};
+use scp_device::{ReportOut, ScriptIn};
 use scp_draw::{Depth, Traced, trace};
 use scp_notices::line_of_fault;
 use scp_prompt::{Failure, Task, status, write_bytes, write_settled};
 use scp_script_check::lint;
-use scp_types::Fault;
+use scp_types::{Fault, SCRIPT_LIMIT};
 use std::alloc::{AllocError, Global};
 
 /// What is written on one stream: all of it, or all up to the fault that ended it, with that fault's line.

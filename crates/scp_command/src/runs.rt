@@ -1,5 +1,6 @@
 //! Scripts that are played, and their reports.
 ghost use Rattle.std.specs.Prelude.{◌≡◌, ◌≤◌, ℕ, List, [], All, IfOk, IfErr, IsOk, IsOkUnless, length, map, string_bytes};
+ghost use Rattle.scp_types.specs.declared.limits.TheConstants.{NODE_LIMIT};
 ghost use Rattle.scp_script.specs.Nodes.{NamesNodes};
 ghost use Rattle.scp_script.specs.Script.{AreAdmitted, node_count};
 ghost use Rattle.scp_report.specs.Report.{view_of};
@@ -63,7 +64,7 @@ fn reports_of(
     commands: &[Command],
 ) -> Result<String, Fault>
     requires names { All NamesNodes commands.now }
-    requires few { length nodes.now ≤ 8 }
+    requires few { length nodes.now ≤ NODE_LIMIT }
     ensures text { IfOk result (λ text. string_bytes text ≡ reports_text shape (records_of nodes.now) commands.now) }
     ensures only_memory { IsOkUnless result Fault.NoMemory }
 {
@@ -82,7 +83,7 @@ fn reports_gathered(
     requires names { All NamesNodes commands.now }
     requires admitted { AreAdmitted [] commands.now }
     requires total { length nodes.now ≡ node_count commands.now }
-    requires few { length nodes.now ≤ 8 }
+    requires few { length nodes.now ≤ NODE_LIMIT }
     ensures text { IfOk result (λ text. string_bytes text ≡ reports_text shape (records_left commands.now nodes.now []) commands.now) }
     ensures only_memory { IsOkUnless result Fault.NoMemory }
 {
@@ -249,7 +250,7 @@ pub fn run<T: Threads + Wait + Sync>(
 
 /// The account of nodes that took one step after another, from what was kept of them.
 fn played_account(alloc: Global, nodes: &[Node], kept: &[Kept]) -> Result<String, Fault>
-    requires few { length nodes.now ≤ 8 }
+    requires few { length nodes.now ≤ NODE_LIMIT }
     ensures account { IfOk result (λ text. string_bytes text ≡ accounted ways.Serial (records_of nodes.now) kept.now) }
     ensures only_memory { All FitsNode (records_of nodes.now) → IsOkUnless result Fault.NoMemory }
 {
@@ -260,7 +261,7 @@ fn played_account(alloc: Global, nodes: &[Node], kept: &[Kept]) -> Result<String
 
 /// The account of nodes, from what was kept of them.
 fn account_of(alloc: Global, nodes: &[Node], kept: &[Kept]) -> Result<String, Failure>
-    requires few { length nodes.now ≤ 8 }
+    requires few { length nodes.now ≤ NODE_LIMIT }
     ensures account { IfOk result (λ text. string_bytes text ≡ accounted ways.Serial (records_of nodes.now) kept.now) }
     ensures cause { IfErr result (IsUntold (records_of nodes.now)) }
 {
@@ -300,7 +301,7 @@ fn left_account(alloc: Global, commands: &[Command], nodes: &[NodeReport]) -> Re
     requires names { All NamesNodes commands.now }
     requires admitted { AreAdmitted [] commands.now }
     requires total { length nodes.now ≡ node_count commands.now }
-    requires few { length nodes.now ≤ 8 }
+    requires few { length nodes.now ≤ NODE_LIMIT }
     ensures account { IfOk result (λ text. string_bytes text ≡ accounted ways.Threads (records_left commands.now nodes.now []) []) }
     ensures only_memory { All FitsNode (records_left commands.now nodes.now []) → IsOkUnless result Fault.NoMemory }
 {
@@ -319,7 +320,7 @@ fn gathered_account(
     requires names { All NamesNodes commands.now }
     requires admitted { AreAdmitted [] commands.now }
     requires total { length nodes.now ≡ node_count commands.now }
-    requires few { length nodes.now ≤ 8 }
+    requires few { length nodes.now ≤ NODE_LIMIT }
     ensures account { IfOk result (λ text. string_bytes text ≡ accounted ways.Threads (records_left commands.now nodes.now []) []) }
     ensures cause { IfErr result (IsUntold (records_left commands.now nodes.now [])) }
 {

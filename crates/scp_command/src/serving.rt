@@ -12,13 +12,13 @@ use crate::forms::{as_text, in_digits, slot};
 use crate::looks::{checked, drawn, quorums, traced};
 use crate::messages::{decoded, encoded};
 use crate::runs::{account, run};
-use scp_device::{ReportOut, SCRIPT_LIMIT, ScriptIn, read_script, write_text};
+use scp_device::{ReportOut, ScriptIn, read_script, write_text};
 use scp_draw::Depth;
 use scp_notices::what_is_played_keeps_the_headlines;
 use scp_prompt::{
     Cause, Failure, LONG_LIMIT, Task, read_within, status, write_bytes, write_failure,
 };
-use scp_types::Fault;
+use scp_types::{Fault, SCRIPT_LIMIT};
 use std::alloc::Global;
 use std::sync::Wait;
 use std::thread::Threads;

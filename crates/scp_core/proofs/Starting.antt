@@ -82,7 +82,7 @@ module _ {D : Type 0} (says : Says D) where
     whole = n.fault;
     rooms = (n.inbox.1, n.ready.1, n.decided.1);
     count = ap length n.links ∙ length-replicate' (length v.config.peers) (new_link v.config.capacities.link);
-    apart = apart v.config.peers n.fit.apart;
+    apart = apart v.config.peers n.apart;
     links = λ l k there peer at. subst (λ (w : LinkView). LinkFlows v.config.me peer v.config.capacities.link unused w) (sym (in_replicate (length v.config.peers) (new_link v.config.capacities.link) l k (rw (← n.links) there))) (new-flows v.config.me peer v.config.capacities.link);
     came = λ l peer at. refl;
     local = ap (λ (s : Settled). s.store.local) n.settled;

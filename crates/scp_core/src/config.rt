@@ -70,7 +70,7 @@ pub struct Config {
     pub me: NodeId,
     /// Its quorum set, which is sane.
     pub set: QuorumSet,
-    /// Its peers: at most seven other nodes, none twice.
+    /// Its peers, none twice: at most seven other nodes, or a hundred where it is made by `Node::of_many`.
     pub peers: Peers,
     /// What its queues hold.
     pub capacities: Capacities,

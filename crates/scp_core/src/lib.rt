@@ -1,5 +1,5 @@
-//! One node of a ledger pipeline, of any application: up to seven links with their readers, an inbox, a pending stage, a slot stage and an
-//! applier, with bounded queues between them. One event is one step of one stage.
+//! One node of a ledger pipeline, of any application: up to seven links, or a hundred, with their readers, an inbox, a pending stage, a
+//! slot stage and an applier, with bounded queues between them. One event is one step of one stage.
 //!
 //! What it promises for every list of events (`HoldsLedger` in `specs/Ledger.antt`), of a node that runs, and of one that failed as it was
 //! before. `run` promises it, and so does `Node::step` with the law `each_node_holds_its_ledger`:
@@ -43,5 +43,5 @@ pub use scp_driver::{Application, Driver, KvDriver, Level};
 pub use scp_ledger::{CommandFate, Decision, Fate, Origin, SharedDecision, Verdict};
 pub use scp_pending::DropCause;
 pub use scp_timers::Timer;
-pub use scp_types::{CAPACITY_LIMIT, LIFE_LIMIT, PEER_LIMIT};
+pub use scp_types::{CAPACITY_LIMIT, LIFE_LIMIT};
 pub use scp_wire::{Bytes, Cause, Command};

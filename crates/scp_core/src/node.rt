@@ -1,10 +1,11 @@
 //! A node: one event is one step of one stage.
 ghost use Rattle.std.specs.Prelude.{◌≡◌, ◌≢◌, ◌∷◌, [], ◌++◌, ◌-◌, ◌<◌, ◌≤◌, ◌⊎◌, ◌↔◌, ℕ, List, length, drop, Some, None, is_some, IsSome, false, true, IfOk, OnOk, OnErr, IfErr, IsOkUnless, Ok, Err, IsTrue, slice_get, option_copied, if◌then◌else◌, MatchOption};
+ghost use Rattle.scp_types.specs.declared.limits.TheConstants.{WINDOW};
 ghost use Rattle.scp_ledger.specs.declared.journal.Fate.{Fate};
 ghost use Rattle.scp_pending.specs.Line.{count_held};
 ghost use Rattle.scp_timers.specs.Timers.{AreTimers};
 ghost use Rattle.scp_apply.specs.Applied.{made_of, value_of};
-ghost use Rattle.scp_core.specs.Config.{IsConfig, IsFit};
+ghost use Rattle.scp_core.specs.Config.{IsConfig, IsConfigOfMany, IsConfigWithin, IsFitWithin, are_apart};
 ghost use Rattle.scp_core.specs.History.{peer_at, Exchange};
 ghost use Rattle.scp_core.specs.Node.{Step, Keeps, LeavesRoom, fault_after, HasLink, lives_at, room_at, queued_at, accepts_at, item_at, has_read_at};
 ghost use Rattle.scp_outboxes.specs.Handing.{waiting_at, overwritten_at};
@@ -29,7 +30,7 @@ use scp_outboxes::Outboxes;
 use scp_pending::{Pending, Ready};
 use scp_quorum::{QuorumSet, SaneSet};
 use scp_timers::{Timer, timers};
-use scp_types::{ConnId, Fault, NodeId, PEER_LIMIT, Slot, Value};
+use scp_types::{ConnId, Fault, LINK_LIMIT, NodeId, PEER_LIMIT, Slot, Value};
 use scp_wire::{Bytes, Command, Inbound, LinkItem};
 use std::alloc::Global;
 use std::marker::Model;
@@ -97,6 +98,29 @@ impl<A: Application + Drop + Copy> Node<A> {
         ensures refused { result ≡ Err Fault.BadConfig ↔ ¬ (IsConfig config) }
         ensures only { IfErr result (λ f. (f ≡ Fault.BadConfig) ⊎ (f ≡ Fault.NoMemory)) }
     {
+        Node::made(alloc, config, application, PEER_LIMIT)
+    }
+
+    /// A node as `new` makes it, but of up to a hundred peers instead of seven.
+    pub fn of_many(alloc: Global, config: Config, application: A) -> Result<Node<A>, Fault>
+        ensures theorem { IfOk result (λ node. LedgerTheorem A.says [] node) }
+        ensures config { IfOk result (λ node. node.config ≡ config) }
+        ensures application { IfOk result (λ node. node.ledger.driver ≡ application) }
+        ensures refused { result ≡ Err Fault.BadConfig ↔ ¬ (IsConfigOfMany config) }
+        ensures only { IfErr result (λ f. (f ≡ Fault.BadConfig) ⊎ (f ≡ Fault.NoMemory)) }
+    {
+        Node::made(alloc, config, application, LINK_LIMIT as usize)
+    }
+
+    /// A node of at most this many peers.
+    fn made(alloc: Global, config: Config, application: A, most: usize) -> Result<Node<A>, Fault>
+        requires { most ≤ LINK_LIMIT }
+        ensures theorem { IfOk result (λ node. LedgerTheorem A.says [] node) }
+        ensures config { IfOk result (λ node. node.config ≡ config) }
+        ensures application { IfOk result (λ node. node.ledger.driver ≡ application) }
+        ensures refused { result ≡ Err Fault.BadConfig ↔ ¬ (IsConfigWithin most config) }
+        ensures only { IfErr result (λ f. (f ≡ Fault.BadConfig) ⊎ (f ≡ Fault.NoMemory)) }
+    {
         what_holds_of_a_ledger_holds_with_one_thing_more::<A>();
         let Config {
             me,
@@ -104,7 +128,7 @@ impl<A: Application + Drop + Copy> Node<A> {
             peers,
             capacities,
         } = config;
-        if !is_fit(&me, peers.as_slice(), capacities) {
+        if !is_fit(&me, peers.as_slice(), capacities, most) {
             return Err(Fault::BadConfig);
         }
         let set = match set.into_sane() {
@@ -124,7 +148,8 @@ impl<A: Application + Drop + Copy> Node<A> {
         peers: Peers,
         capacities: Capacities,
     ) -> Result<Node<A>, Fault>
-        requires fit { IsFit me peers capacities }
+        requires few { length peers ≤ LINK_LIMIT }
+        requires apart { are_apart peers ≡ true }
         ensures new { IfOk result (λ node. IsNew A.says node) }
         ensures application { IfOk result (λ node. node.ledger.driver ≡ application) }
         ensures config { IfOk result (λ node. node.config ≡ record { me = me; set = set; peers = peers; capacities = capacities }) }
@@ -234,7 +259,7 @@ impl<A: Application + Drop + Copy> Node<A> {
     /// The timers that should run now: for each of the 16 open slots that of its nomination, and that of its ballot. The host chooses how
     /// long each runs. When one runs out, the host tells the node by `Round` or `Timer` of its slot. It says nothing of a failed node.
     pub fn timers(&self, alloc: Global) -> Result<Vec<Timer>, Fault>
-        ensures exact { self.now.failed ≡ false → IfOk result (λ found. AreTimers self.now.ledger.machines self.now.ledger.lowest 16 found.items) }
+        ensures exact { self.now.failed ≡ false → IfOk result (λ found. AreTimers self.now.ledger.machines self.now.ledger.lowest WINDOW found.items) }
         ensures only_memory { IsOkUnless result Fault.NoMemory }
     {
         timers(alloc, self.decider.ledger())
@@ -622,11 +647,14 @@ impl<A: Application + Drop + Copy> Node<A> {
     }
 }
 
-/// Whether peers and capacities are as a configuration needs them.
-fn is_fit(me: &NodeId, peers: &[NodeId], capacities: Capacities) -> bool
-    ensures { IsTrue result ↔ IsFit me.now peers.now capacities }
+/// Whether peers and capacities are as a configuration of at most this many peers needs them.
+fn is_fit(me: &NodeId, peers: &[NodeId], capacities: Capacities, most: usize) -> bool
+    requires { most ≤ LINK_LIMIT }
+    ensures fit { IsTrue result ↔ IsFitWithin most me.now peers.now capacities }
+    ensures few { IsTrue result → length peers.now ≤ LINK_LIMIT }
+    ensures apart { IsTrue result → are_apart peers.now ≡ true }
 {
-    peers.len() <= PEER_LIMIT
+    peers.len() <= most
         && are_peers_apart(peers)
         && !has_peer(peers, me)
         && capacities.are_in_range()

@@ -1,5 +1,6 @@
 //! Making the outboxes of all links.
 ghost use Rattle.std.specs.Prelude.{◌≡◌, ◌≤◌, ◌+◌, ◌∷◌, [], length, IfOk, OnOk, IsOkUnless};
+ghost use Rattle.scp_types.specs.declared.limits.TheConstants.{NODE_LIMIT};
 ghost use Rattle.scp_desk.specs.Ends.{PutterView};
 ghost use Rattle.scp_desks.specs.Places.{Each};
 ghost use Rattle.scp_desks.specs.Table.{AreMade};
@@ -20,7 +21,7 @@ pub struct Made {
 
 /// The ends of the outboxes of `count` nodes, each a peer of all others. The only refusal is `Fault::NoMemory`.
 pub fn make_all(alloc: Global, count: u8) -> Result<Made, Fault>
-    requires few { count ≤ 8 }
+    requires few { count ≤ NODE_LIMIT }
     ensures made { IfOk result (λ made. AreMade count made.outlets.items made.markers.items made.takers.items) }
     ensures only_memory { IsOkUnless result Fault.NoMemory }
 {

@@ -1,5 +1,6 @@
 //! The place of a node among the peers of another.
 ghost use Rattle.std.specs.Prelude.{◌≡◌, ◌<◌};
+ghost use Rattle.scp_types.specs.declared.limits.TheConstants.{NODE_LIMIT};
 ghost use Rattle.scp_desks.specs.Places.{link_of, peer_at};
 
 /// Which link of the node `to` comes from the node `from`: the place of `from` among its peers.
@@ -15,7 +16,7 @@ pub fn link_of(from: u8, to: u8) -> u8
 
 /// The peer at a place.
 pub fn peer_at(place: u8, to: u8) -> u8
-    requires few { place < 8 }
+    requires few { place < NODE_LIMIT }
     ensures { result ≡ peer_at place to }
 {
     if place + 1 < to { place + 1 } else { place + 2 }

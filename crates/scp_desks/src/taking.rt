@@ -1,5 +1,6 @@
 //! Taking the ends of the outboxes of all links back.
 ghost use Rattle.std.specs.Prelude.{◌≡◌, ◌≤◌, ◌<◌, ◌∷◌, [], length, IfOk, OnOk, IsOkUnless};
+ghost use Rattle.scp_types.specs.declared.limits.TheConstants.{NODE_LIMIT};
 ghost use Rattle.scp_desks.specs.Table.{AreAllBack, AllCameOut};
 ghost use Rattle.scp_desks.specs.inside.Links.{AllEndIn, ArePairs, IsAnyOf, StandLast, TookFrom, TookIn};
 
@@ -20,7 +21,7 @@ pub fn take_all_back<R: Wait>(
     mut markers: Vec<Vec<Marker>>,
     mut takers: Vec<Vec<Option<Taker>>>,
 ) -> Result<(), Fault>
-    requires few { count ≤ 8 }
+    requires few { count ≤ NODE_LIMIT }
     requires all { AreAllBack count outlets.items markers.items takers.items }
     ensures came { OnOk result (AllCameOut count outlets.items takers.items) }
     ensures only_memory { IsOkUnless result Fault.NoMemory }
@@ -44,7 +45,7 @@ fn take_row<R: Wait>(
     mut markers: Vec<Marker>,
     mut takers: Vec<Option<Taker>>,
 ) -> Result<(), Fault>
-    requires few { length markers.items < 8 }
+    requires few { length markers.items < NODE_LIMIT }
     requires number { 1 ≤ to }
     requires last { StandLast to outlets.old.items markers.items takers.items }
     ensures took { OnOk result (ArePairs (TookFrom to takers.items) outlets.old.items outlets.new.items) }

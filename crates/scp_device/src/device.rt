@@ -2,12 +2,9 @@
 ghost use Rattle.std.specs.Prelude.{◌≡◌, ◌≢◌, ◌⊎◌, ◌≤◌, ◌<◌, ◌+◌, ℕ, List, [], Option, Some, None, take, drop, length, OnOk, OnErr, IfOk, IfErr, IfSome, IsErrOf, Ok};
 ghost use Rattle.scp_device.specs.Device.{Loses, HasEnded, Gains, GainsPart, Stays, Fails, IsReadFault};
 
-use scp_types::Fault;
+use scp_types::{Fault, SCRIPT_LIMIT};
 use std::alloc::Global;
 use std::io;
-
-/// The most bytes that a script may have (this project's profile).
-pub const SCRIPT_LIMIT: usize = 1_048_576;
 
 /// Where a script comes from.
 pub trait ScriptIn {

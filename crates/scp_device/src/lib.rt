@@ -17,7 +17,6 @@ mod parts;
 
 pub use bad::{BadLine, BadWord, Expected, ReadFault, WordFault};
 pub use device::{
-    FailsAt, MemoryIn, MemoryOut, Process, ReportOut, SCRIPT_LIMIT, ScriptIn, read_script,
-    write_text,
+    FailsAt, MemoryIn, MemoryOut, Process, ReportOut, ScriptIn, read_script, write_text,
 };
 pub use parts::{write_bad_word, write_numbered, write_parts};

@@ -1,6 +1,6 @@
 -- What contracts see of the ends of a channel.
 use Rattle.std.specs.Prelude.{◌≡◌, ℕ, ◌<◌, ◌≤◌, ◌==◌, ◌||◌, Bool, true, false, List, [], ◌∷◌, ◌++◌, length, slice_get, Some}
-use Rattle.scp_types.specs.declared.limits.TheConstants.{CAPACITY_LIMIT}
+use Rattle.scp_types.specs.declared.limits.TheConstants.{CAPACITY_LIMIT, NODE_LIMIT}
 use Rattle.atomic_table.specs.Seated.{TableId}
 use Rattle.atomic_table.specs.declared.badge.Badge.{Badge}
 use Rattle.crossbeam_channel.specs.declared.flavors.array.Key.{Key}
@@ -29,7 +29,7 @@ pub record Receiver (T : Type 0) : Type 0 where
 -- there are 1 to 8 producers, and the channel holds 1 to `CAPACITY_LIMIT` items
 pub record IsOfSize (producers capacity : ℕ) : Type 0 where
   pub some_producer : 0 < producers
-  pub few_producers : producers ≤ 8
+  pub few_producers : producers ≤ NODE_LIMIT
   pub some_room : 0 < capacity
   pub little_room : capacity ≤ CAPACITY_LIMIT
 

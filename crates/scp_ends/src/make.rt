@@ -11,13 +11,10 @@ use crate::item::{Item, View};
 use crate::rule::{InOrder, Law, Makes, Room, Sizes};
 use crate::waiting::{Bells, Ringer};
 use crossbeam_channel::{Pass, RuledSender, bounded_with};
-use scp_types::{CAPACITY_LIMIT, Fault, PEER_LIMIT};
+use scp_types::{CAPACITY_LIMIT, Fault, NODE_LIMIT};
 use std::alloc::{AllocError, Global};
 use std::marker::Brand;
 use std::sync::Arc;
-
-/// The most producers of a channel: a node's links and its own commands.
-const PRODUCER_LIMIT: u8 = PEER_LIMIT as u8 + 1;
 
 /// Lets the consumer's pass know the capacity.
 fn size<T: Drop, L: Law<T>, J: Room>(
@@ -65,7 +62,7 @@ pub(crate) fn channel<T: Drop, L: Law<T>>(
     ensures bad_config { IsErrOf result Fault.BadConfig ↔ (IsOfSize producers capacity → ⊥) }
     ensures only { IfErr result (λ f. (f ≡ Fault.NoMemory) ⊎ (f ≡ Fault.BadConfig)) }
 {
-    if producers == 0 || producers > PRODUCER_LIMIT || !is_room(capacity) {
+    if producers == 0 || usize::from(producers) > NODE_LIMIT || !is_room(capacity) {
         return Err(Fault::BadConfig);
     }
     let made = ends_of(alloc, producers, capacity)?;

@@ -3,6 +3,7 @@ use Rattle.std.proofs.Common.{◌≡◌, ◌<◌, ◌+◌, ℕ, zero, suc, Bool,
 use Rattle.std.specs.Prelude.{◌↔◌}
 use Rattle.std.specs.List.{AllByRecursion}
 use Rattle.std.proofs.lemmas.Grind.{flat_map-append}
+use Rattle.scp_types.specs.declared.limits.TheConstants.{ROUND_LIMIT}
 use Rattle.scp_driver.specs.Driver.{Says}
 use Rattle.scp_core.specs.declared.event.Event.{Event}
 use Rattle.scp_core.specs.declared.event.Event.TheVariants as event
@@ -81,7 +82,7 @@ module _ {D : Type 0} (says : Says D) where
   -- a node that comes to rest sends nothing
   pub rest_sends_none : (calm : Bool) (a b : NodeView D) (heard : List Exchange) → Rests says calm a heard b → sent_in heard ≡ []
   rest_sends_none true a b heard r = none_and_none r.2.first r.2.rest heard r.2.split (turns_send_none r.0 a r.2.mid r.2.first r.2.one) (turn_sends_none r.2.mid b r.2.rest r.2.two.1)
-  rest_sends_none false a b heard r = turns_send_none 100000 a b heard r
+  rest_sends_none false a b heard r = turns_send_none ROUND_LIMIT a b heard r
 
   -- ---- turns, which a watch is shown
 
@@ -107,10 +108,10 @@ module _ {D : Type 0} (says : Says D) where
       (goes_then says a b c (λ o heard n. AreMovingTurns says k o heard n × Watched says Note 1 w o heard n v) (λ o heard n. IsTurn o heard n × Watched says Note 1 v o heard n z × ((moved ≡ false) ↔ IsStill heard)) (λ o heard n. AreMovingTurns says (suc k) o heard n × Watched says Note 1 w o heard n z)
       (λ x y done next p q. (record { mid = b; first = x; rest = y; split = refl; one = p.0; two = (next, q.0, moving moved y is q.2) }, watched_on says Note w v z a b c x y p.1 q.1)) g t)
 
-  pub comes_to_rest : {W : Type 0} (Note : Noting D W) (w v z : W) (a b c : NodeView D) (k : ℕ) (moved : Bool) → k < 100000 → moved ≡ false → RestsWatched says Note (AreMovingTurns says k) w a b v → Turns says Note v moved b c z → RestsWatched says Note (Rests says true) w a c z
+  pub comes_to_rest : {W : Type 0} (Note : Noting D W) (w v z : W) (a b c : NodeView D) (k : ℕ) (moved : Bool) → k < ROUND_LIMIT → moved ≡ false → RestsWatched says Note (AreMovingTurns says k) w a b v → Turns says Note v moved b c z → RestsWatched says Note (Rests says true) w a c z
   comes_to_rest Note w v z a b c k moved lt is g t =
       goes_then says a b c (λ o heard n. AreMovingTurns says k o heard n × Watched says Note 1 w o heard n v) (λ o heard n. IsTurn o heard n × Watched says Note 1 v o heard n z × ((moved ≡ false) ↔ IsStill heard)) (λ o heard n. Rests says true o heard n × Watched says Note 1 w o heard n z)
       (λ x y done next p q. ((k, lt, record { mid = b; first = x; rest = y; split = refl; one = p.0; two = (next, q.0, q.2.0 is) }), watched_on says Note w v z a b c x y p.1 q.1)) g t
 
-  pub goes_on : {W : Type 0} (Note : Noting D W) (w z : W) (a b : NodeView D) (k : ℕ) → k ≡ 100000 → RestsWatched says Note (AreMovingTurns says k) w a b z → RestsWatched says Note (Rests says false) w a b z
+  pub goes_on : {W : Type 0} (Note : Noting D W) (w z : W) (a b : NodeView D) (k : ℕ) → k ≡ ROUND_LIMIT → RestsWatched says Note (AreMovingTurns says k) w a b z → RestsWatched says Note (Rests says false) w a b z
   goes_on Note w z a b k is g = subst (λ (j : ℕ). RestsWatched says Note (AreMovingTurns says j) w a b z) is g

@@ -7,10 +7,10 @@ ghost use Rattle.scp_episode.specs.Episode.{drains_of, leaving_at};
 ghost use Rattle.scp_episode.specs.inside.Draining.{Drained, GoesDraws, OthersStay};
 
 use crate::sending::Sending;
-use scp_core::{Bytes, Event, Node, PEER_LIMIT, Reply};
+use scp_core::{Bytes, Event, Node, Reply};
 use scp_driver::Application;
 use scp_turn::{Watch, step_with};
-use scp_types::Fault;
+use scp_types::{Fault, LINK_LIMIT};
 
 /// Adds what went out over a link.
 fn add(sent: &mut Vec<Sending>, link: u8, bytes: Bytes) -> Result<(), Fault>
@@ -79,7 +79,7 @@ pub fn drain<A: Application + Drop + Copy, W: Watch<A>>(
     ensures runs { OnOk result (node.new.failed ≡ node.old.failed) }
     ensures only_memory { IsOkUnless result Fault.NoMemory }
 {
-    let links = node.peers().len().min(PEER_LIMIT) as u8;
+    let links = node.peers().len().min(LINK_LIMIT as usize) as u8;
     for link in 0..links {
         let count = leaving(node, link);
         draw_all(node, link, count, sent, watch)?;

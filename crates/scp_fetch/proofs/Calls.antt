@@ -6,9 +6,10 @@ use Rattle.std.specs.Cmp.Lexicographic.{same_text}
 use Rattle.std.proofs.lemmas.Bool.{eqb-true, eqb-false}
 use Rattle.std.proofs.lemmas.Cmp.{nat_list_eq_equiv}
 use Rattle.std.proofs.lemmas.Grind.{get_or-set_at}
-use Rattle.std.proofs.lemmas.List.{get_or-set_other, length-set}
+use Rattle.std.proofs.lemmas.List.{get_or-set_other, length-set, length-replicate}
 use Rattle.scp_types.specs.declared.names.ConnId.{ConnId}
 use Rattle.scp_types.specs.declared.names.Hash.{Hash}
+use Rattle.scp_types.specs.declared.limits.TheConstants.{LINK_LIMIT}
 use Rattle.scp_fetch.specs.declared.want.Want.{Want}
 use Rattle.scp_fetch.specs.declared.want.Miss.{Miss}
 use Rattle.scp_fetch.specs.Hashes.{same_hash}
@@ -131,7 +132,7 @@ new_one hash other link l c e = by_link (nat_eq link l) refl
 
     by_link : (t : Bool) → nat_eq link l ≡ t → Asks hash link (wants other l c)
     by_link true k = same_call hash other link l c (same_hash-is hash other both.0) (sym (eqb-true link l k))
-    by_link false k = absurd (true_isnt (sym both.1 ∙ get_or-set_other (replicate 8 false) l link true false (eqb-false link l k) ∙ none_set 8 link))
+    by_link false k = absurd (true_isnt (sym both.1 ∙ get_or-set_other (replicate LINK_LIMIT false) l link true false (eqb-false link l k) ∙ none_set LINK_LIMIT link))
 
 step_wants : (hash other : Hash) (link l : ℕ) (c : ConnId) (ws : List Want) → is_asked hash link (wanted_by other l c ws) ≡ true → Before hash link ws (wants other l c)
 step_wants hash other link l c ws e = by_test (is_wanted other ws) e
@@ -205,9 +206,9 @@ asked_was calls hash link e = elim (back hash link [] calls e) [ inl w ↦ w | i
 
 -- ---- along the calls, from the first on
 
--- each want has a place for each of the eight links
+-- each want has a place for each link
 abbrev AreWide : List Want → Type 0
-AreWide ws = AllByRecursion (λ (w : Want). length w.asked ≡ 8) ws
+AreWide ws = AllByRecursion (λ (w : Want). length w.asked ≡ LINK_LIMIT) ws
 
 -- each want of the hash has the link asked
 abbrev AreAsked : Hash → ℕ → List Want → Type 0
@@ -229,17 +230,17 @@ all_push : {X : Type 0} (P : X → Type 0) (xs : List X) (y : X) → AllByRecurs
 all_push P [] y a k = (k, tt)
 all_push P (x ∷ xs) y a k = (a.0, all_push P xs y a.1 k)
 
-wide_ask : (other : Hash) (l : ℕ) (c : ConnId) (w : Want) → length w.asked ≡ 8 → length (ask other l c w).asked ≡ 8
+wide_ask : (other : Hash) (l : ℕ) (c : ConnId) (w : Want) → length w.asked ≡ LINK_LIMIT → length (ask other l c w).asked ≡ LINK_LIMIT
 wide_ask other l c w e = by_test (is_for other w)
   where
-    by_test : (b : Bool) → length (cond b (record w { asked = set w.asked l true; waiting = joined c w.waiting }) w).asked ≡ 8
+    by_test : (b : Bool) → length (cond b (record w { asked = set w.asked l true; waiting = joined c w.waiting }) w).asked ≡ LINK_LIMIT
     by_test true = length-set w.asked l true ∙ e
     by_test false = e
 
-wide_count : (miss : Miss) (w : Want) → length w.asked ≡ 8 → length (count_miss miss w).asked ≡ 8
+wide_count : (miss : Miss) (w : Want) → length w.asked ≡ LINK_LIMIT → length (count_miss miss w).asked ≡ LINK_LIMIT
 wide_count miss w e = by_test (is_missed miss w.hash)
   where
-    by_test : (b : Bool) → length (cond b (record w { misses = w.misses + 1 }) w).asked ≡ 8
+    by_test : (b : Bool) → length (cond b (record w { misses = w.misses + 1 }) w).asked ≡ LINK_LIMIT
     by_test true = e
     by_test false = e
 
@@ -247,12 +248,12 @@ wide_step : (ws : List Want) (call : Call) → AreWide ws → AreWide (made ws c
 wide_step ws (wants other l c) a = by_test (is_wanted other ws)
   where
     by_test : (b : Bool) → AreWide (cond b (map (ask other l c) ws) (ws ++ new_want other l c ∷ []))
-    by_test true = all_map (λ (w : Want). length w.asked ≡ 8) (ask other l c) ws (λ w e. wide_ask other l c w e) a
-    by_test false = all_push (λ (w : Want). length w.asked ≡ 8) ws (new_want other l c) a (length-set (replicate 8 false) l true)
-wide_step ws (opens l) a = all_map (λ (w : Want). length w.asked ≡ 8) (unask l) ws (λ w e. length-set w.asked l false ∙ e) a
-wide_step ws (ends c) a = all_map (λ (w : Want). length w.asked ≡ 8) (leave c) (filter (waits_besides c) ws) (λ w e. e) (all_filter (λ (w : Want). length w.asked ≡ 8) (waits_besides c) ws a)
-wide_step ws (misses miss) a = all_map (λ (w : Want). length w.asked ≡ 8) (count_miss miss) (filter (λ want. not (is_last miss want)) ws) (λ w e. wide_count miss w e) (all_filter (λ (w : Want). length w.asked ≡ 8) (λ want. not (is_last miss want)) ws a)
-wide_step ws (answers other) a = all_filter (λ (w : Want). length w.asked ≡ 8) (λ want. not (is_for other want)) ws a
+    by_test true = all_map (λ (w : Want). length w.asked ≡ LINK_LIMIT) (ask other l c) ws (λ w e. wide_ask other l c w e) a
+    by_test false = all_push (λ (w : Want). length w.asked ≡ LINK_LIMIT) ws (new_want other l c) a (length-set (replicate LINK_LIMIT false) l true ∙ length-replicate {A = Bool} LINK_LIMIT false)
+wide_step ws (opens l) a = all_map (λ (w : Want). length w.asked ≡ LINK_LIMIT) (unask l) ws (λ w e. length-set w.asked l false ∙ e) a
+wide_step ws (ends c) a = all_map (λ (w : Want). length w.asked ≡ LINK_LIMIT) (leave c) (filter (waits_besides c) ws) (λ w e. e) (all_filter (λ (w : Want). length w.asked ≡ LINK_LIMIT) (waits_besides c) ws a)
+wide_step ws (misses miss) a = all_map (λ (w : Want). length w.asked ≡ LINK_LIMIT) (count_miss miss) (filter (λ want. not (is_last miss want)) ws) (λ w e. wide_count miss w e) (all_filter (λ (w : Want). length w.asked ≡ LINK_LIMIT) (λ want. not (is_last miss want)) ws a)
+wide_step ws (answers other) a = all_filter (λ (w : Want). length w.asked ≡ LINK_LIMIT) (λ want. not (is_for other want)) ws a
 
 wide_along : (ws : List Want) (calls : List Call) → AreWide ws → AreWide (fold made ws calls)
 wide_along ws [] a = a
@@ -260,14 +261,14 @@ wide_along ws (call ∷ calls) a = wide_along (made ws call) calls (wide_step ws
 
 -- ---- asked now
 
-ask_sets : (hash : Hash) (link : ℕ) (c : ConnId) (w : Want) → link < 8 → length w.asked ≡ 8 → is_for hash (ask hash link c w) ≡ true → bit link (ask hash link c w) ≡ true
+ask_sets : (hash : Hash) (link : ℕ) (c : ConnId) (w : Want) → link < LINK_LIMIT → length w.asked ≡ LINK_LIMIT → is_for hash (ask hash link c w) ≡ true → bit link (ask hash link c w) ≡ true
 ask_sets hash link c w lt e for = by_test (is_for hash w) refl for
   where
     by_test : (b : Bool) → is_for hash w ≡ b → is_for hash (cond b (record w { asked = set w.asked link true; waiting = joined c w.waiting }) w) ≡ true → bit link (cond b (record w { asked = set w.asked link true; waiting = joined c w.waiting }) w) ≡ true
     by_test true k f = get_or-set_at w.asked link link true false refl (omega (arith, lt, e))
     by_test false k f = absurd (true_isnt (sym f ∙ k))
 
-all_asked : (hash : Hash) (link : ℕ) (c : ConnId) (ws : List Want) → link < 8 → AreWide ws → AreAsked hash link (map (ask hash link c) ws)
+all_asked : (hash : Hash) (link : ℕ) (c : ConnId) (ws : List Want) → link < LINK_LIMIT → AreWide ws → AreAsked hash link (map (ask hash link c) ws)
 all_asked hash link c [] lt a = tt
 all_asked hash link c (w ∷ ws) lt a = (λ for. ask_sets hash link c w lt a.0 for, all_asked hash link c ws lt a.1)
 
@@ -279,15 +280,15 @@ none_asked hash link (w ∷ ws) e = by_test (is_for hash w) refl e (λ k. none_a
     by_test true k e rest = absurd (true_isnt e)
     by_test false k e rest = (λ for. absurd (true_isnt (sym for ∙ k)), rest e)
 
-now_asked : (hash : Hash) (link : ℕ) (c : ConnId) (ws : List Want) → link < 8 → AreWide ws → AreAsked hash link (made ws (wants hash link c))
+now_asked : (hash : Hash) (link : ℕ) (c : ConnId) (ws : List Want) → link < LINK_LIMIT → AreWide ws → AreAsked hash link (made ws (wants hash link c))
 now_asked hash link c ws lt a = by_test (is_wanted hash ws) refl
   where
     by_test : (b : Bool) → is_wanted hash ws ≡ b → AreAsked hash link (cond b (map (ask hash link c) ws) (ws ++ new_want hash link c ∷ []))
     by_test true e = all_asked hash link c ws lt a
-    by_test false e = all_push (λ (w : Want). is_for hash w ≡ true → bit link w ≡ true) ws (new_want hash link c) (none_asked hash link ws e) (λ for. get_or-set_at (replicate 8 false) link link true false refl lt)
+    by_test false e = all_push (λ (w : Want). is_for hash w ≡ true → bit link w ≡ true) ws (new_want hash link c) (none_asked hash link ws e) (λ for. get_or-set_at (replicate LINK_LIMIT false) link link true false refl (omega (arith, lt, length-replicate {A = Bool} LINK_LIMIT false)))
 
 -- and later, while the hash stays wanted and the link isn't opened
-asks_more : (hash other : Hash) (link l : ℕ) (c : ConnId) (w : Want) → (is_for hash w ≡ true → bit link w ≡ true) → link < 8 → length w.asked ≡ 8 → is_for hash (ask other l c w) ≡ true → bit link (ask other l c w) ≡ true
+asks_more : (hash other : Hash) (link l : ℕ) (c : ConnId) (w : Want) → (is_for hash w ≡ true → bit link w ≡ true) → link < LINK_LIMIT → length w.asked ≡ LINK_LIMIT → is_for hash (ask other l c w) ≡ true → bit link (ask other l c w) ≡ true
 asks_more hash other link l c w k lt wide for = by_test (is_for other w) for
   where
     by_link : (t : Bool) → nat_eq link l ≡ t → is_for hash w ≡ true → get_or (set w.asked l true) link false ≡ true
@@ -298,7 +299,7 @@ asks_more hash other link l c w k lt wide for = by_test (is_for other w) for
     by_test true f = by_link (nat_eq link l) refl f
     by_test false f = k f
 
-more_all : (hash other : Hash) (link l : ℕ) (c : ConnId) (ws : List Want) → link < 8 → AreWide ws → AreAsked hash link ws → AreAsked hash link (map (ask other l c) ws)
+more_all : (hash other : Hash) (link l : ℕ) (c : ConnId) (ws : List Want) → link < LINK_LIMIT → AreWide ws → AreAsked hash link ws → AreAsked hash link (map (ask other l c) ws)
 more_all hash other link l c [] lt a k = tt
 more_all hash other link l c (w ∷ ws) lt a k = (λ for. asks_more hash other link l c w k.0 lt a.0 for, more_all hash other link l c ws lt a.1 k.1)
 
@@ -320,7 +321,7 @@ unask_keeps hash link l w other k for = by_link (nat_eq l link) refl other
     by_link true e o = absurd (true_isnt (sym o))
     by_link false e o = get_or-set_other w.asked l link false false (λ same. eqb-false l link e (sym same)) ∙ k for
 
-keeps_step : (hash : Hash) (link : ℕ) (ws : List Want) (call : Call) → link < 8 → AreWide ws → is_wanted hash ws ≡ true → opens_not link call ≡ true → AreAsked hash link ws → AreAsked hash link (made ws call)
+keeps_step : (hash : Hash) (link : ℕ) (ws : List Want) (call : Call) → link < LINK_LIMIT → AreWide ws → is_wanted hash ws ≡ true → opens_not link call ≡ true → AreAsked hash link ws → AreAsked hash link (made ws call)
 keeps_step hash link ws (wants other l c) lt wide is not' a = by_test (is_wanted other ws) refl
   where
     by_test : (b : Bool) → is_wanted other ws ≡ b → AreAsked hash link (cond b (map (ask other l c) ws) (ws ++ new_want other l c ∷ []))
@@ -342,7 +343,7 @@ some_asked hash link (w ∷ ws) a e = elim (or_either (is_for hash w) (is_wanted
     both_of true y p q = q
     both_of false y p q = absurd cc
 
-still_asked : (hash : Hash) (link : ℕ) (ws : List Want) (calls : List Call) → link < 8 → AreWide ws → AreAsked hash link ws → StaysWanted hash ws calls → AllByRecursion (λ call. opens_not link call ≡ true) calls → is_asked hash link (fold made ws calls) ≡ true
+still_asked : (hash : Hash) (link : ℕ) (ws : List Want) (calls : List Call) → link < LINK_LIMIT → AreWide ws → AreAsked hash link ws → StaysWanted hash ws calls → AllByRecursion (λ call. opens_not link call ≡ true) calls → is_asked hash link (fold made ws calls) ≡ true
 still_asked hash link ws [] lt wide a s shut = some_asked hash link ws a s
 still_asked hash link ws (call ∷ calls) lt wide a s shut = still_asked hash link (made ws call) calls lt (wide_step ws call wide) (keeps_step hash link ws call lt wide s.0 shut.0 a) s.1 shut.1
 
@@ -350,7 +351,7 @@ fold-append : {A B : Type 0} (f : B → A → B) (a : B) (xs ys : List A) → fo
 fold-append f a [] ys = refl
 fold-append f a (x ∷ xs) ys = fold-append f (f a x) xs ys
 
-was_asked : (calls : List Call) (hash : Hash) (link : ℕ) → link < 8 → WasAsked hash link [] calls → is_asked hash link (wanted_after calls) ≡ true
+was_asked : (calls : List Call) (hash : Hash) (link : ℕ) → link < LINK_LIMIT → WasAsked hash link [] calls → is_asked hash link (wanted_after calls) ≡ true
 was_asked calls hash link lt w =
     let ws = fold made [] w.before in
     let wide : AreWide ws = wide_along [] w.before tt in

@@ -3,6 +3,7 @@ use Rattle.std.specs.Prelude.{ℕ, ◌<◌, ◌≡◌, ◌↔◌, Bool, true, no
 use Rattle.std.specs.List.{AllByRecursion}
 use Rattle.scp_types.specs.declared.names.ConnId.{ConnId}
 use Rattle.scp_types.specs.declared.names.Hash.{Hash}
+use Rattle.scp_types.specs.declared.limits.TheConstants.{LINK_LIMIT}
 use Rattle.scp_fetch.specs.declared.want.Want.{Want}
 use Rattle.scp_fetch.specs.declared.want.Miss.{Miss}
 use Rattle.scp_fetch.specs.Wants.{is_wanted, is_asked, wanted_by, unasked, left_by, missed_by, without}
@@ -51,4 +52,4 @@ pub record WasAsked (hash : Hash) (link : ℕ) (ws : List Want) (calls : List Ca
 
 -- a link counts as asked exactly where it was asked so
 abbrev pub AskedByTheCalls : Type 0
-AskedByTheCalls = (calls : List Call) (hash : Hash) (link : ℕ) → link < 8 → (is_asked hash link (wanted_after calls) ≡ true) ↔ WasAsked hash link [] calls
+AskedByTheCalls = (calls : List Call) (hash : Hash) (link : ℕ) → link < LINK_LIMIT → (is_asked hash link (wanted_after calls) ≡ true) ↔ WasAsked hash link [] calls

@@ -4,6 +4,7 @@ use Rattle.std.specs.Prelude.{ℕ, ◌+◌, ◌++◌, [], ◌∷◌, List, Bool,
 use Rattle.std.specs.List.{list_any}
 use Rattle.scp_types.specs.declared.names.ConnId.{ConnId}
 use Rattle.scp_types.specs.declared.names.Hash.{Hash}
+use Rattle.scp_types.specs.declared.limits.TheConstants.{LINK_LIMIT}
 use Rattle.scp_fetch.specs.Hashes.{same_hash, same_conn}
 use Rattle.scp_fetch.specs.declared.want.Want.{Want}
 use Rattle.scp_fetch.specs.declared.want.Miss.{Miss}
@@ -41,7 +42,7 @@ ask hash link c want = if is_for hash want then record want { asked = slice_set 
 
 -- a new want of a hash: the link counts as asked for it, and the connection waits
 abbrev pub new_want : Hash → ℕ → ConnId → Want
-new_want hash link c = record { hash = hash; misses = 0; asked = slice_set (replicate 8 false) link true; waiting = c ∷ [] }
+new_want hash link c = record { hash = hash; misses = 0; asked = slice_set (replicate LINK_LIMIT false) link true; waiting = c ∷ [] }
 
 -- the hash is wanted, the link counts as asked for it, and the connection waits
 abbrev pub wanted_by : Hash → ℕ → ConnId → List Want → List Want

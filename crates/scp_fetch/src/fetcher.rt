@@ -8,15 +8,12 @@ use crate::want::{
     has_want, last_hashes, note_asked, note_missed, note_unasked, part_all, waiters,
 };
 use indexmap::IndexMap;
-use scp_types::{ConnId, Fault, Hash};
+use scp_types::{ConnId, Fault, Hash, LINK_LIMIT};
 use std::alloc::{AllocError, Global};
 use std::marker::Model;
 
 /// With this many misses a hash is given up (this project's profile).
 pub const MISS_LIMIT: u8 = 12;
-
-/// Links have numbers below this (this project's profile).
-pub const LINK_LIMIT: u8 = 8;
 
 /// The hashes that are wanted, in the order in which they became so, each with its misses, the links that were asked, and the
 /// connections that wait for it. A look-up is one in a hash table. A miss of all, an opened link and the end of a connection

@@ -18,7 +18,7 @@ mod waiters;
 mod want;
 
 pub use answers::{Answer, Missed};
-pub use fetcher::{Fetcher, LINK_LIMIT, MISS_LIMIT};
+pub use fetcher::{Fetcher, MISS_LIMIT};
 pub use laws::a_link_counts_as_asked_by_the_calls;
 pub use store::{OTHER_SETS_LIMIT, SetStore};
 pub use want::Want;

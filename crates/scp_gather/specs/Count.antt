@@ -1,5 +1,6 @@
 -- How much a node holds, while its stages run in threads.
 use Rattle.std.specs.Prelude.{◌≡◌, ℕ, ◌+◌, ◌*◌, ◌≤◌, ◌⊎◌, Bool, true, false, List, ◌++◌, Option, All, length, sum_by, count_by, option_to_list}
+use Rattle.scp_types.specs.declared.limits.TheConstants.{WINDOW}
 use Rattle.scp_pending.specs.declared.pending.TheConstants.{PARKED_LIMIT}
 use Rattle.scp_types.specs.declared.names.NodeId.{NodeId}
 use Rattle.scp_wire.specs.declared.link.Inbound.{Inbound}
@@ -129,4 +130,4 @@ held h = underway h + messages_held h.pending + length h.applier.buffer
 abbrev pub HoldsAtMost : Type 0
 HoldsAtMost = (h : Holding) → KeepsBounds h →
     held h ≤ sum_by link_room h.links + h.inbox.room + h.ready.room + h.decided.room + 3
-    + (PARKED_LIMIT * length h.settled.settled.queues + 1) + 16
+    + (PARKED_LIMIT * length h.settled.settled.queues + 1) + WINDOW

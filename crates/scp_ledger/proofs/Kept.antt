@@ -9,6 +9,7 @@ use Rattle.std.proofs.lemmas.List.{append-nil}
 use Rattle.std.proofs.lemmas.List.Elements.{All-nil, All-cons, All-push, All-append, All-weaker, All-contains, All-contains_itself, All-get_or, Contains-append_left}
 use Rattle.std.proofs.lemmas.List.Folds.{list_any-append}
 use Rattle.std.proofs.lemmas.List.Quantifiers.{all_pairs_push}
+use Rattle.scp_types.specs.declared.limits.TheConstants.{WINDOW}
 use Rattle.scp_types.specs.declared.names.ConnId.{ConnId}
 use Rattle.scp_types.specs.declared.names.NodeId.{NodeId}
 use Rattle.scp_types.specs.declared.names.Slot.{Slot}
@@ -155,7 +156,7 @@ next_open first ds lowest d low is = record {
   lowest = lowest;
   is_lowest = low;
   from = is.not_old;
-  near = elim (cases_lt d.slot.0 (lowest + 16)) [ inl lt ↦ lt | inr le ↦ absurd (is.not_far (inr le)) ];
+  near = elim (cases_lt d.slot.0 (lowest + WINDOW)) [ inl lt ↦ lt | inr le ↦ absurd (is.not_far (inr le)) ];
 }
 
 all_some : {X : Type 0} (P : X → Type 0) (xs : List X) (o : Option X) → All P xs → IfSome o P → All P (xs ++ option_to_list o)

@@ -1,6 +1,7 @@
 -- Decisions, the slots that have one, and what each rests on.
 use Rattle.std.specs.Prelude.{ℕ, ◌+◌, ◌<◌, ◌≤◌, ◌≡◌, ◌≢◌, Bool, true, false, List, ◌∷◌, [], ◌++◌, nat_eq, Option, Some, None, Contains, IfSome}
 use Rattle.std.specs.List.{list_any, AllPairs}
+use Rattle.scp_types.specs.declared.limits.TheConstants.{WINDOW}
 use Rattle.scp_types.specs.declared.names.ConnId.{ConnId}
 use Rattle.scp_types.specs.declared.names.NodeId.{NodeId}
 use Rattle.scp_types.specs.declared.names.Seq.{Seq}
@@ -74,7 +75,7 @@ pub record IsNext (first : ℕ) (earlier : List Decision) (d : Decision) : Type 
   pub lowest : ℕ
   pub is_lowest : IsLowest first earlier lowest
   pub from : lowest ≤ d.slot.0
-  pub near : d.slot.0 < lowest + 16
+  pub near : d.slot.0 < lowest + WINDOW
 
 -- each decision is so after those before it
 abbrev pub AreInWindow : ℕ → List Decision → List Decision → Type 0

@@ -1,5 +1,6 @@
 -- The verdicts: the first that fits, by the journal, the decisions and the asked links as they were before.
 use Rattle.std.specs.Prelude.{ℕ, ◌+◌, ◌<◌, ◌≤◌, ◌≡◌, ◌⊎◌, Bool, true, false, List, Option, IsSomeAnd, option_map, unwrap_or, position, length}
+use Rattle.scp_types.specs.declared.limits.TheConstants.{WINDOW}
 use Rattle.scp_types.specs.declared.names.ConnId.{ConnId}
 use Rattle.scp_types.specs.declared.names.NodeId.{NodeId}
 use Rattle.scp_types.specs.declared.names.Slot.{Slot}
@@ -26,7 +27,7 @@ FirstOf fits first later answer = (fits × (answer ≡ first)) ⊎ ((¬ fits) ×
 
 -- beyond the 16 slots from the lowest undecided one on, or above the last slot
 abbrev pub IsFar : ℕ → ℕ → Type 0
-IsFar lowest slot = (4294967295 < slot) ⊎ (lowest + 16 ≤ slot)
+IsFar lowest slot = (4294967295 < slot) ⊎ (lowest + WINDOW ≤ slot)
 
 -- what is checked before a slot's machine is asked, for envelopes and for commands to a machine
 abbrev pub BehindWindow : ℕ → List Decision → ℕ → (Verdict → Type 0) → Verdict → Type 0

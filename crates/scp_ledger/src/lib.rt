@@ -35,4 +35,4 @@ pub use ledger::Ledger;
 pub use quorum::Quorum;
 pub use shared::{DECIDED_LIMIT, SharedDecision};
 pub use took::{CommandFate, Onward, Outgoing, OutgoingList, Took};
-pub use window::{LAST_SLOT, WINDOW};
+pub use window::LAST_SLOT;

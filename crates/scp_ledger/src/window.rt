@@ -4,12 +4,9 @@ ghost use Rattle.scp_ledger.specs.declared.journal.Decision.{Decision};
 ghost use Rattle.scp_ledger.specs.Verdicts.{IsFar};
 ghost use Rattle.scp_ledger.specs.inside.Window.{is_ahead, IsBounded, IsWindow, Passes};
 
-use scp_types::{Fault, Slot};
+use scp_types::{Fault, Slot, WINDOW};
 use std::alloc::Global;
 use std::collections::BTreeSet;
-
-/// How many slots are open, from the lowest undecided one on (this project's profile).
-pub const WINDOW: u64 = 16;
 
 /// The highest slot that can be open (this project's profile).
 pub const LAST_SLOT: u64 = 4_294_967_295;

@@ -6,6 +6,7 @@ use Rattle.std.specs.List.{last_or}
 use Rattle.std.proofs.lemmas.Bool.{cases_eq}
 use Rattle.std.proofs.lemmas.Bool.Decides.{nat_tests}
 use Rattle.std.proofs.lemmas.List.Elements.{All-append, All-nil, All-cons, All-head, All-tail}
+use Rattle.scp_types.specs.declared.limits.TheConstants.{NODE_LIMIT, PEER_LIMIT}
 use Rattle.scp_types.specs.declared.fault.Fault.{Fault}
 use Rattle.scp_types.specs.declared.fault.Fault.TheVariants.{NoMemory, BadConfig}
 use Rattle.scp_quorum.specs.QuorumTree.{QuorumTree}
@@ -13,7 +14,7 @@ use Rattle.scp_quorum.specs.Sane.{IsSane}
 use Rattle.scp_network.specs.scp_core.specs.declared.config.Config.{Config}
 use Rattle.scp_theorem.specs.Fates.{is_among}
 use Rattle.scp_types.specs.Range.{IsInRange}
-use Rattle.scp_network.specs.scp_core.specs.Config.{AreInRange, IsFit, IsConfig, are_apart}
+use Rattle.scp_network.specs.scp_core.specs.Config.{AreInRange, IsFitWithin, IsConfig, are_apart}
 use Rattle.scp_network.specs.scp_core.specs.Kv.{NodeView}
 use Rattle.scp_script.specs.declared.command.Command.{Command}
 use Rattle.scp_script.specs.declared.command.Command.TheVariants.{Caps, Nodes, Set, Open, Close, Send, Propose, Round, Timer, Tick, Ask, Settle, Wait, Report}
@@ -53,22 +54,22 @@ passes p (suc n) i e one le = ⊎_elim
     (cases_eq i (suc n))
 
 are_peers : ℕ → ℕ → Bool
-are_peers count number = nat_le (length (peers_of count number)) 7 && (are_apart (peers_of count number) && not (is_among (id_of number) (peers_of count number)))
+are_peers count number = nat_le (length (peers_of count number)) PEER_LIMIT && (are_apart (peers_of count number) && not (is_among (id_of number) (peers_of count number)))
 
-each_is_fit : up_to (λ count. up_to (are_peers count) count) 8 ≡ true
+each_is_fit : up_to (λ count. up_to (are_peers count) count) NODE_LIMIT ≡ true
 unfolding up_to are_peers
 each_is_fit = refl
 
-peers_are_fit : (count number : ℕ) → count ≤ 8 → 1 ≤ number → number ≤ count → are_peers count number ≡ true
-peers_are_fit count number few one within = passes (are_peers count) count number (passes (λ n. up_to (are_peers n) n) 8 count each_is_fit (omega (arith, one, within)) few) one within
+peers_are_fit : (count number : ℕ) → count ≤ NODE_LIMIT → 1 ≤ number → number ≤ count → are_peers count number ≡ true
+peers_are_fit count number few one within = passes (are_peers count) count number (passes (λ n. up_to (are_peers n) n) NODE_LIMIT count each_is_fit (omega (arith, one, within)) few) one within
 
-config_is_fit : (count number : ℕ) (c : Config) → count ≤ 8 → 1 ≤ number → number ≤ count → c.me ≡ id_of number → c.peers ≡ peers_of count number → AreInRange c.capacities → IsFit c.me c.peers c.capacities
+config_is_fit : (count number : ℕ) (c : Config) → count ≤ NODE_LIMIT → 1 ≤ number → number ≤ count → c.me ≡ id_of number → c.peers ≡ peers_of count number → AreInRange c.capacities → IsFitWithin PEER_LIMIT c.me c.peers c.capacities
 unfolding are_peers
 config_is_fit count number c few one within me peers room =
     let e = peers_are_fit count number few one within in
-    let short : nat_le (length (peers_of count number)) 7 ≡ true = and_first _ _ e in
-    let rest = and_second (nat_le (length (peers_of count number)) 7) _ e in
-    let len : length (peers_of count number) ≤ 7 = grind (arith, nat_tests, short) in
+    let short : nat_le (length (peers_of count number)) PEER_LIMIT ≡ true = and_first _ _ e in
+    let rest = and_second (nat_le (length (peers_of count number)) PEER_LIMIT) _ e in
+    let len : length (peers_of count number) ≤ PEER_LIMIT = grind (arith, nat_tests, short) in
     record {
       few = rw peers len;
       apart = rw peers (and_first (are_apart (peers_of count number)) _ rest);
@@ -76,7 +77,7 @@ config_is_fit count number c few one within me peers room =
       in_range = room;
     }
 
-pub config_fits : (c : Config) (commands : List Command) (count number : ℕ) → c ≡ config_of commands number → count ≡ node_count commands → count ≤ 8 → (1 ≤ number) × (number ≤ count) → HaveRoom commands → IsSane (set_at number commands) → IsConfig c
+pub config_fits : (c : Config) (commands : List Command) (count number : ℕ) → c ≡ config_of commands number → count ≡ node_count commands → count ≤ NODE_LIMIT → (1 ≤ number) × (number ≤ count) → HaveRoom commands → IsSane (set_at number commands) → IsConfig c
 config_fits c commands count number is counts few within room sane =
     rw is (record {
       sane = sane;

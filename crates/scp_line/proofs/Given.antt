@@ -3,6 +3,7 @@ use Rattle.std.proofs.Common.{◌≡◌, ◌-◌, ℕ, zero, suc, Bool, true, fa
 use Rattle.std.specs.Prelude.{if◌then◌else◌}
 use Rattle.std.specs.List.{AllByRecursion}
 use Rattle.std.proofs.lemmas.Grind.{flat_map-append}
+use Rattle.scp_types.specs.declared.limits.TheConstants.{ROUND_LIMIT}
 use Rattle.scp_wire.specs.declared.link.Command.{Command as LocalCommand}
 use Rattle.scp_wire.specs.declared.link.Command.TheVariants as local
 use Rattle.scp_wire.specs.declared.link.Inbound.TheVariants.{Local}
@@ -116,7 +117,7 @@ rounds_none n driven count rounds a x b p = in_order_none n (λ round. IsMovingR
 
 rests_none : (n : ℕ) (driven : List Bool) (count : ℕ) (calm : Bool) (a : Nodes) (x : List Heard) (b : Nodes) → RestsAs driven count calm a x b → given_at n x ≡ []
 rests_none n driven count true a x b p = both_none n x p.2.first p.2.rest p.2.split (rounds_none n driven count p.0 a p.2.first p.2.mid p.2.one) (round_none n driven count p.2.mid p.2.rest b p.2.two.0)
-rests_none n driven count false a x b p = rounds_none n driven count 100000 a x b p
+rests_none n driven count false a x b p = rounds_none n driven count ROUND_LIMIT a x b p
 
 -- ---- lines
 

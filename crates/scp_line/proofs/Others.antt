@@ -6,6 +6,7 @@ use Rattle.std.specs.Cmp.Lexicographic.{pointwise, bytes_decides}
 use Rattle.std.proofs.lemmas.Bool.{cases_eq}
 use Rattle.std.proofs.lemmas.Option.{slice_get_within}
 use Rattle.std.proofs.lemmas.List.{map-append, length-map, length-append, get_or-map, get_or_push, get_or_append_left, same_lists}
+use Rattle.scp_types.specs.declared.limits.TheConstants.{NODE_LIMIT}
 use Rattle.scp_types.specs.declared.names.NodeId.{NodeId}
 use Rattle.scp_types.specs.declared.fault.Fault.{Fault}
 use Rattle.scp_types.specs.declared.fault.Fault.TheVariants.{NoMemory, BadConfig}
@@ -25,15 +26,15 @@ use Rattle.scp_line.proofs.Making.{new_at}
 same_others : ℕ → ℕ → Bool
 same_others count number = pointwise nat_eq (filter (λ other. not (nat_eq other number)) (numbers count)) (remove (numbers count) (number - 1))
 
-each_is_same : up_to (λ count. up_to (same_others count) count) 8 ≡ true
+each_is_same : up_to (λ count. up_to (same_others count) count) NODE_LIMIT ≡ true
 unfolding up_to same_others
 each_is_same = refl
 
-others_are : (count number : ℕ) → count ≤ 8 → 1 ≤ number → number ≤ count → filter (λ other. not (nat_eq other number)) (numbers count) ≡ remove (numbers count) (number - 1)
+others_are : (count number : ℕ) → count ≤ NODE_LIMIT → 1 ≤ number → number ≤ count → filter (λ other. not (nat_eq other number)) (numbers count) ≡ remove (numbers count) (number - 1)
 unfolding same_others
 others_are count number few one within =
     (bytes_decides (filter (λ other. not (nat_eq other number)) (numbers count)) (remove (numbers count) (number - 1))).0
-    (passes (same_others count) count number (passes (λ n. up_to (same_others n) n) 8 count each_is_same (omega (arith, one, within)) few) one within)
+    (passes (same_others count) count number (passes (λ n. up_to (same_others n) n) NODE_LIMIT count each_is_same (omega (arith, one, within)) few) one within)
 
 -- ---- their ids
 
@@ -68,9 +69,9 @@ ids_are commands (v ∷ vs) are =
 
 -- ---- the network
 
-pub linked : (commands : List Command) (nodes : Nodes) → AreNew commands nodes → length nodes ≤ 8 → IsNetwork nodes
+pub linked : (commands : List Command) (nodes : Nodes) → AreNew commands nodes → length nodes ≤ NODE_LIMIT → IsNetwork nodes
 linked commands nodes are few = record {
-  few = few;
+  few = omega (arith, few);
   linked = λ place node at.
       let within : place < length nodes = slice_get_within nodes place node at in
       let same : place + 1 - 1 ≡ place = omega arith in

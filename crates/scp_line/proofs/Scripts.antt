@@ -2,7 +2,7 @@
 use Rattle.std.proofs.Common.{◌≡◌, ◌<◌, ◌+◌, ℕ, suc, Bool, List, [], ◌∷◌, ◌++◌, take, drop, length, get_or, Option, None, Some, refl, sym, ◌∙◌, ap, subst, drop-cons}
 use Rattle.std.specs.Prelude.{All, IfSome, ◌≤◌}
 use Rattle.std.proofs.lemmas.List.{take-append-drop}
-use Rattle.scp_device.specs.declared.device.TheConstants.{SCRIPT_LIMIT}
+use Rattle.scp_types.specs.declared.limits.TheConstants.{SCRIPT_LIMIT}
 use Rattle.scp_network.specs.scp_core.specs.Kv.{TheoremGivesLedger}
 use Rattle.scp_network.specs.scp_turn.specs.Kv.{Noting}
 use Rattle.scp_network.specs.Heard.{Heard, past_at}

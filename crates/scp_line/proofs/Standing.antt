@@ -3,6 +3,7 @@ use Rattle.std.proofs.Common.{◌≡◌, ◌≢◌, ◌<◌, ◌≤◌, ◌+◌,
 use Rattle.std.specs.Prelude.{All, fold}
 use Rattle.std.proofs.lemmas.Bool.Decides.{nat_tests}
 use Rattle.std.proofs.lemmas.List.Elements.{All-head, All-tail}
+use Rattle.scp_types.specs.declared.limits.TheConstants.{NODE_LIMIT}
 use Rattle.scp_script.specs.declared.command.Command.{Command}
 use Rattle.scp_script.specs.declared.command.Command.TheVariants as script
 use Rattle.scp_script.specs.Script.{counted, node_count, Admits, AreAdmitted}
@@ -17,7 +18,7 @@ pub record StandsAt (commands done : List Command) (command : Command) : Type 0 
   pub names : All NamesNodes commands
   pub admitted : AreAdmitted [] commands
 
-few_more : (before : ℕ) (command : Command) → before ≤ 8 → NamesNodes command → counted before command ≤ 8
+few_more : (before : ℕ) (command : Command) → before ≤ NODE_LIMIT → NamesNodes command → counted before command ≤ NODE_LIMIT
 few_more before (script.Caps capacities) le ok = le
 few_more before (script.Nodes count quorum) le ok = ok.0.1
 few_more before (script.Set at set) le ok = le
@@ -33,12 +34,12 @@ few_more before script.Settle le ok = le
 few_more before (script.Wait at things) le ok = le
 few_more before (script.Report at) le ok = le
 
-few_after : (before : ℕ) (commands : List Command) → before ≤ 8 → All NamesNodes commands → fold counted before commands ≤ 8
+few_after : (before : ℕ) (commands : List Command) → before ≤ NODE_LIMIT → All NamesNodes commands → fold counted before commands ≤ NODE_LIMIT
 few_after before [] le all = le
 few_after before (command ∷ commands) le all = few_after (counted before command) commands (few_more before command le (All-head NamesNodes command commands all)) (All-tail NamesNodes command commands all)
 
 -- there are at most eight
-pub few_nodes : (commands : List Command) → All NamesNodes commands → node_count commands ≤ 8
+pub few_nodes : (commands : List Command) → All NamesNodes commands → node_count commands ≤ NODE_LIMIT
 few_nodes commands all = few_after 0 commands (omega arith) all
 
 pub stands_admitted : (commands done : List Command) (command : Command) → StandsAt commands done command → Admits done command

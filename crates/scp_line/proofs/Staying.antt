@@ -3,6 +3,7 @@ use Rattle.std.proofs.Common.{◌≡◌, ◌-◌, ℕ, zero, suc, Bool, true, fa
 use Rattle.std.specs.Prelude.{slice_get, slice_set}
 use Rattle.std.specs.List.{AllByRecursion}
 use Rattle.std.proofs.lemmas.List.{length-set, map-set}
+use Rattle.scp_types.specs.declared.limits.TheConstants.{ROUND_LIMIT}
 use Rattle.scp_network.specs.scp_core.specs.declared.event.Event.{Event}
 use Rattle.scp_network.specs.scp_core.specs.declared.event.Event.TheVariants as event
 use Rattle.scp_network.specs.scp_core.specs.declared.event.Reply.{Reply}
@@ -224,4 +225,4 @@ rounds_stay driven count rounds a x b p = in_order_stays (λ round. IsMovingRoun
 -- while the nodes came to rest
 pub rests_stay : (driven : List Bool) (count : ℕ) (a : Nodes) (x : List Heard) (b : Nodes) → Rests driven count a x b → AllStay a b
 rests_stay driven count a x b (true, p) = stay_then a p.2.mid b (rounds_stay driven count p.0 a p.2.first p.2.mid p.2.one) (round_stays driven count p.2.mid p.2.rest b p.2.two.0)
-rests_stay driven count a x b (false, p) = rounds_stay driven count 100000 a x b p
+rests_stay driven count a x b (false, p) = rounds_stay driven count ROUND_LIMIT a x b p

@@ -1,5 +1,6 @@
 -- What is reported of a script that was played in threads.
 use Rattle.std.proofs.Common.{◌≡◌, ◌≢◌, ◌≤◌, ℕ, List, [], ◌⊎◌, inl, inr, ⊎_elim, ◌∙◌, sym, subst, arith}
+use Rattle.scp_types.specs.declared.limits.TheConstants.{NODE_LIMIT}
 use Rattle.scp_types.specs.declared.fault.Fault.{Fault}
 use Rattle.scp_types.specs.declared.fault.Fault.TheVariants.{NoMemory, Malformed, TooLong, Insane, Full, NotOpen, AlreadyOpen, LivesSpent, BadConfig, Failed, JournalFull, BadScript, Refused, Device}
 use Rattle.scp_threaded_script.specs.scp_gather.specs.Kv.{NodeReport}
@@ -36,9 +37,9 @@ are_gathered_reports script text commands nodes same reported reports = record {
 
 -- it is a stage's fault of a node, or names none
 abbrev IsToldBy : ℕ → Fault → Type 0
-IsToldBy node fault = ((s : Stage) × (fault ≡ Refused s) × (1 ≤ node) × (node ≤ 8)) ⊎ IsLineFault 8 node fault
+IsToldBy node fault = ((s : Stage) × (fault ≡ Refused s) × (1 ≤ node) × (node ≤ NODE_LIMIT)) ⊎ IsLineFault NODE_LIMIT node fault
 
-line_within : (count node : ℕ) (fault : Fault) → count ≤ 8 → IsLineFault count node fault → IsLineFault 8 node fault
+line_within : (count node : ℕ) (fault : Fault) → count ≤ NODE_LIMIT → IsLineFault count node fault → IsLineFault NODE_LIMIT node fault
 line_within count node (Refused Reader) few h = (h.0, omega (arith, h.1, few))
 line_within count node (Refused Pend) few h = (h.0, omega (arith, h.1, few))
 line_within count node (Refused Slot) few h = absurd h
@@ -64,7 +65,7 @@ told_by commands e g = by (given_up_by_nodes commands e g)
     by (inl h) = inl (h.0, h.1, h.2.0, omega (arith, h.2.1, g.most))
     by (inr h) = inr (line_within (node_count commands) e.node e.fault g.most h)
 
-line_cause : (node : ℕ) (fault : Fault) → IsLineFault 8 node fault → IsThreadsFault fault
+line_cause : (node : ℕ) (fault : Fault) → IsLineFault NODE_LIMIT node fault → IsThreadsFault fault
 line_cause node NoMemory h = tt
 line_cause node Full h = tt
 line_cause node NotOpen h = tt
@@ -80,7 +81,7 @@ line_cause node JournalFull h = absurd h
 line_cause node (BadScript line) h = absurd h
 line_cause node Device h = absurd h
 
-line_named : (node : ℕ) (fault : Fault) → IsLineFault 8 node fault → IsNamed node fault
+line_named : (node : ℕ) (fault : Fault) → IsLineFault NODE_LIMIT node fault → IsNamed node fault
 line_named node NoMemory h = h
 line_named node Full h = h
 line_named node NotOpen h = h
@@ -106,13 +107,13 @@ pub given_up_named : (commands : List Command) (e : NodeFault) → IsGivenUp com
 given_up_named commands e g = ⊎_elim (λ h. subst (IsNamed e.node) (sym h.1) (h.2, h.3)) (λ h. line_named e.node e.fault h) (told_by commands e g)
 
 pub given_up_not_device : (commands : List Command) (e : NodeFault) → IsGivenUp commands e → e.fault ≢ Device
-given_up_not_device commands e g is = ⊎_elim (λ h. let k : Refused h.0 ≡ Device = sym h.1 ∙ is in cc) (λ h. subst (IsLineFault 8 e.node) is h) (told_by commands e g)
+given_up_not_device commands e g is = ⊎_elim (λ h. let k : Refused h.0 ≡ Device = sym h.1 ∙ is in cc) (λ h. subst (IsLineFault NODE_LIMIT e.node) is h) (told_by commands e g)
 
 pub given_up_not_long : (commands : List Command) (e : NodeFault) → IsGivenUp commands e → e.fault ≢ TooLong
-given_up_not_long commands e g is = ⊎_elim (λ h. let k : Refused h.0 ≡ TooLong = sym h.1 ∙ is in cc) (λ h. subst (IsLineFault 8 e.node) is h) (told_by commands e g)
+given_up_not_long commands e g is = ⊎_elim (λ h. let k : Refused h.0 ≡ TooLong = sym h.1 ∙ is in cc) (λ h. subst (IsLineFault NODE_LIMIT e.node) is h) (told_by commands e g)
 
 pub given_up_not_bad : (commands : List Command) (e : NodeFault) → IsGivenUp commands e → (line : ℕ) → e.fault ≢ BadScript line
-given_up_not_bad commands e g line is = ⊎_elim (λ h. let k : Refused h.0 ≡ BadScript line = sym h.1 ∙ is in cc) (λ h. subst (IsLineFault 8 e.node) is h) (told_by commands e g)
+given_up_not_bad commands e g line is = ⊎_elim (λ h. let k : Refused h.0 ≡ BadScript line = sym h.1 ∙ is in cc) (λ h. subst (IsLineFault NODE_LIMIT e.node) is h) (told_by commands e g)
 
 pub given_up_script : (script : List ℕ) (commands : List Command) (e : NodeFault) → IsScript script → commands ≡ commands_in script → IsGivenUp commands e → AreGivenUp script e.node e.fault
 given_up_script script commands e is same g = (is, subst (λ (c : List Command). IsGivenUp c e) same g)

@@ -1,6 +1,7 @@
 -- What playing a script means, and which line shows a message.
-use Rattle.std.specs.Prelude.{ℕ, ◌+◌, ◌-◌, ◌<◌, ◌≤◌, ◌≡◌, ◌⊎◌, Bool, true, false, List, [], ◌∷◌, ◌++◌, Option, Some, None, Err, flat_map, fold, replicate, length, codes, slice_get, get_or, option_map}
+use Rattle.std.specs.Prelude.{ℕ, ◌+◌, ◌-◌, ◌<◌, ◌≤◌, ◌≡◌, ◌⊎◌, Bool, true, List, [], ◌∷◌, ◌++◌, Option, Some, None, Err, flat_map, fold, length, codes, slice_get, get_or, option_map}
 use Rattle.std.specs.Fmt.{decimal}
+use Rattle.scp_types.specs.declared.limits.TheConstants.{NODE_LIMIT}
 use Rattle.scp_types.specs.declared.fault.Fault.{Fault}
 use Rattle.scp_types.specs.declared.fault.Fault.TheVariants.{Malformed, Failed, Refused}
 use Rattle.scp_quorum.specs.QuorumKind.{set_hash}
@@ -30,7 +31,7 @@ use Rattle.scp_report.specs.Node.{reports_of}
 use Rattle.scp_report.specs.Reports.{settled_text}
 use Rattle.scp_network.specs.Heard.{Nodes, Heard, HaveHeard, past_at, Then, IsNothing, IsOne}
 use Rattle.scp_network.specs.Rounds.{link_of, Rests, RestsAs, Breaks, AllRun}
-use Rattle.scp_network.specs.Network.{driven_more}
+use Rattle.scp_network.specs.Network.{driven_more, none_driven}
 
 -- The number of the node that hears a command, and the event that it hears. Some commands are no event.
 abbrev pub event_by : Command → Option (ℕ × Event)
@@ -46,7 +47,7 @@ driven_by driven command = driven
 
 -- the links on which the script alone sends: those that a `send` line names
 abbrev pub driven_in : List Command → List Bool
-driven_in commands = fold driven_by (replicate 64 false) commands
+driven_in commands = fold driven_by none_driven commands
 
 -- the node of this number heard this event, and gave this reply
 abbrev pub Answers : ℕ × Event → Reply → Nodes → List Heard → Nodes → Type 0
@@ -236,6 +237,6 @@ IsUnread digits fault = IsUnreadBytes (hex_bytes digits) fault
 
 -- A node, from 1 to 8, is named for a failure of a node or of one of its stages; for every other fault the number is 0.
 abbrev pub IsNamed : ℕ → Fault → Type 0
-IsNamed node Failed = (1 ≤ node) × (node ≤ 8)
-IsNamed node (Refused stage) = (1 ≤ node) × (node ≤ 8)
+IsNamed node Failed = (1 ≤ node) × (node ≤ NODE_LIMIT)
+IsNamed node (Refused stage) = (1 ≤ node) × (node ≤ NODE_LIMIT)
 IsNamed node fault = node ≡ 0

@@ -1,5 +1,6 @@
 -- A script that is played line by line, while a watch sees its lines and the steps of its nodes (this project's profile).
 use Rattle.std.specs.Prelude.{ℕ, ◌≤◌, ◌≡◌, ◌≢◌, ◌⊎◌, Bool, List, [], ◌∷◌, ◌++◌, length}
+use Rattle.scp_types.specs.declared.limits.TheConstants.{NODE_LIMIT}
 use Rattle.scp_types.specs.declared.fault.Fault.TheVariants.{NoMemory as no_memory}
 use Rattle.scp_network.specs.scp_core.specs.declared.event.Event.{Event}
 use Rattle.scp_network.specs.scp_core.specs.declared.event.Reply.{Reply}
@@ -31,7 +32,7 @@ lining {W} Begins Ends Before After = record { begins = Begins; steps = notes Be
 -- The nodes of a script, after some of its lines. There are at most eight, none failed, and the ledger theorem holds of each for what it
 -- heard.
 pub record ArePlaying (nodes : Nodes) : Type 0 where
-  pub few : length nodes ≤ 8
+  pub few : length nodes ≤ NODE_LIMIT
   pub run : AllRun nodes
   pub heard : List Heard
   pub have : HaveHeard heard nodes

@@ -1,6 +1,7 @@
 //! The record of a node whose stages ran in threads, made from what these left.
 ghost use Rattle.std.specs.Prelude.{◌≡◌, ◌≤◌, ◌-◌, [], All, IfOk, IsOkUnless, fold, get_or, length, map};
 ghost use Rattle.std.specs.BTreeSet.{insert_key};
+ghost use Rattle.scp_types.specs.declared.limits.TheConstants.{NODE_LIMIT};
 ghost use Rattle.scp_types.specs.Order.{conn_cmp};
 ghost use Rattle.scp_pending.specs.Messages.{is_on, messages_on};
 ghost use Rattle.scp_script.specs.Script.{AreAdmitted, node_count};
@@ -165,7 +166,7 @@ pub fn reports_left<'a>(
     requires names { All NamesNodes commands.now }
     requires sets { sets.now ≡ sets_in commands.now }
     requires count { length nodes.now ≡ node_count commands.now }
-    requires few { length nodes.now ≤ 8 }
+    requires few { length nodes.now ≤ NODE_LIMIT }
     ensures { IfOk result (λ reports. map view_of reports.items ≡ records_left commands.now nodes.now (map (λ row. row.items) losses.now)) }
 {
     let mut reports = Vec::new(alloc);

@@ -41,8 +41,7 @@ pub use outcome::{line_of_fault, status};
 pub use player::{Stopped, play_lines};
 pub use playing::{PlayFault, check, play, show};
 pub use scp_device::{
-    FailsAt, MemoryIn, MemoryOut, Process, ReportOut, SCRIPT_LIMIT, ScriptIn, read_script,
-    write_text,
+    FailsAt, MemoryIn, MemoryOut, Process, ReportOut, ScriptIn, read_script, write_text,
 };
 pub use scp_report::{LinkReport, Parked, Report, reports_of, write_settled};
 pub use scp_threaded_script::Ran;

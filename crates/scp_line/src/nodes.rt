@@ -1,10 +1,12 @@
 //! The nodes of a script, and what its lines do to them.
-ghost use Rattle.std.specs.Prelude.{◌≡◌, ◌≢◌, ◌⊎◌, ◌≤◌, ◌++◌, [], ℕ, List, All, OnOk, IfOk, IfErr, IfSome, IsOkUnless, string_bytes, length, replicate, false};
+ghost use Rattle.std.specs.Prelude.{◌≡◌, ◌≢◌, ◌⊎◌, ◌≤◌, ◌++◌, [], ℕ, List, All, OnOk, IfOk, IfErr, IfSome, IsOkUnless, string_bytes, length};
+ghost use Rattle.scp_types.specs.declared.limits.TheConstants.{NODE_LIMIT};
 ghost use Rattle.scp_script.specs.Script.{AreAdmitted, node_count};
 ghost use Rattle.scp_script.specs.Nodes.{NamesNodes, IsSmall};
 ghost use Rattle.scp_report.specs.Node.{reports_of as records_of};
 ghost use Rattle.scp_report.specs.Reports.{settled_text};
 ghost use Rattle.scp_network.specs.scp_core.specs.Config.{IsConfig};
+ghost use Rattle.scp_network.specs.Network.{none_driven};
 ghost use Rattle.scp_line.specs.Play.{config_of, driven_in, event_by, IsNew, AreNew, Played};
 ghost use Rattle.scp_network.specs.scp_turn.specs.Watch.{notes};
 ghost use Rattle.scp_line.specs.Nodes.{HaveRoom, AreMade, moment, Offers, Settles, Acts, ActsAlone, ActsAgain, brings_to_rest};
@@ -27,7 +29,7 @@ fn config_from(alloc: Global, commands: &[Command], count: u8, number: u8) -> Re
     requires names { All NamesNodes commands.now }
     requires admitted { AreAdmitted [] commands.now }
     requires count { count ≡ node_count commands.now }
-    requires few { count ≤ 8 }
+    requires few { count ≤ NODE_LIMIT }
     requires number { (1 ≤ number) × (number ≤ count) }
     requires room { HaveRoom commands.now }
     ensures config { IfOk result (λ config. config ≡ config_of commands.now number) }
@@ -53,7 +55,7 @@ fn new_node(alloc: Global, commands: &[Command], count: u8, number: u8) -> Resul
     requires names { All NamesNodes commands.now }
     requires admitted { AreAdmitted [] commands.now }
     requires count { count ≡ node_count commands.now }
-    requires few { count ≤ 8 }
+    requires few { count ≤ NODE_LIMIT }
     requires number { (1 ≤ number) × (number ≤ count) }
     requires room { HaveRoom commands.now }
     ensures node { IfOk result (λ node. IsNew commands.now number node) }
@@ -69,7 +71,7 @@ fn new_nodes(alloc: Global, commands: &[Command]) -> Result<Vec<Node>, Fault>
     requires admitted { AreAdmitted [] commands.now }
     requires room { HaveRoom commands.now }
     ensures nodes { IfOk result (λ nodes. AreNew commands.now nodes.items) }
-    ensures few { IfOk result (λ nodes. length nodes.items ≤ 8) }
+    ensures few { IfOk result (λ nodes. length nodes.items ≤ NODE_LIMIT) }
     ensures only_memory { IsOkUnless result Fault.NoMemory }
 {
     let count = count_of_nodes(commands);
@@ -87,7 +89,7 @@ fn linked_nodes(alloc: Global, commands: &[Command]) -> Result<Network, Fault>
     requires admitted { AreAdmitted [] commands.now }
     requires room { HaveRoom commands.now }
     ensures nodes { IfOk result (λ network. AreNew commands.now network.nodes) }
-    ensures driven { IfOk result (λ network. network.driven ≡ replicate 64 false) }
+    ensures driven { IfOk result (λ network. network.driven ≡ none_driven) }
     ensures only_memory { IsOkUnless result Fault.NoMemory }
 {
     let nodes = new_nodes(alloc, commands)?;
@@ -266,7 +268,7 @@ pub fn played_reports(
     commands: &[Command],
 ) -> Result<String, AllocError>
     requires names { All NamesNodes commands.now }
-    requires few { length nodes.now ≤ 8 }
+    requires few { length nodes.now ≤ NODE_LIMIT }
     ensures { IfOk result (λ text. string_bytes text ≡ settled_text (records_of nodes.now) commands.now) }
 {
     let reports = reports_of(alloc, nodes)?;

@@ -14,10 +14,10 @@ ghost use Rattle.scp_line.specs.Play.{AreReports, Stops, Overflows, IsShown, IsU
 use crate::laws::what_is_played_keeps_the_headlines;
 use crate::messages::line_of;
 use crate::nodes::{new_network, play_alone, played_reports};
-use scp_device::{ReportOut, SCRIPT_LIMIT, ScriptIn, read_script, write_text};
+use scp_device::{ReportOut, ScriptIn, read_script, write_text};
 use scp_network::{KvDriver, each_node_holds_its_ledger};
 use scp_script::{bytes_of, parse};
-use scp_types::Fault;
+use scp_types::{Fault, SCRIPT_LIMIT};
 use scp_wire::{Message, decode};
 use std::alloc::Global;
 

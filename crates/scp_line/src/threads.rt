@@ -17,12 +17,12 @@ ghost use Rattle.scp_line.specs.Threads.{AreGatheredReports, AreGivenUp, IsOfThe
 use crate::laws::what_is_played_keeps_the_headlines;
 use crate::left::{reports_left, sets_of};
 use crate::playing::PlayFault;
-use scp_device::{ReportOut, SCRIPT_LIMIT, ScriptIn, read_script, write_text};
+use scp_device::{ReportOut, ScriptIn, read_script, write_text};
 use scp_gate::{Gate, Open};
 use scp_report::settled_report;
 use scp_script::{Command, count_of_nodes, parse};
 use scp_threaded_script::{NodeFault, NodeReport, Ran, run_lines};
-use scp_types::Fault;
+use scp_types::{Fault, SCRIPT_LIMIT};
 use std::alloc::Global;
 use std::sync::Wait;
 use std::thread::Threads;

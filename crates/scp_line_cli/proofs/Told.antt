@@ -5,6 +5,7 @@ use Rattle.scp_types.specs.declared.fault.Fault.TheVariants.{NoMemory, Malformed
 use Rattle.scp_device.specs.Device.{Gains, Fails}
 use Rattle.scp_line.specs.declared.playing.PlayFault.{PlayFault}
 use Rattle.std.specs.Prelude.{Result, Ok, Err, OnOk, OnErr, IfSome, length, ◌<◌}
+use Rattle.scp_types.specs.declared.limits.TheConstants.{SCRIPT_LIMIT}
 use Rattle.scp_script.specs.Script.{IsScript, IsBadLine, commands_in}
 use Rattle.scp_line.specs.Outcome.{status_of, IsCheckFault, IsPlayFault}
 use Rattle.scp_line.specs.Play.{IsNamed, Stops, Overflows}
@@ -56,23 +57,23 @@ told_by written failures old new text (Err fault) whole kept raised = inr raised
 -- ---- why a script wasn't played or found to be one
 
 abbrev pub IsTooLong : Option (List ℕ) → Type 0
-IsTooLong left = IfSome left (λ all. 1048576 < length all)
+IsTooLong left = IfSome left (λ all. SCRIPT_LIMIT < length all)
 
 abbrev pub IsBadAt : Option (List ℕ) → ℕ → Type 0
-IsBadAt left line = IfSome left (λ all. (length all ≤ 1048576) × IsBadLine all line)
+IsBadAt left line = IfSome left (λ all. (length all ≤ SCRIPT_LIMIT) × IsBadLine all line)
 
 abbrev pub IsStoppedAt : Option (List ℕ) → ℕ → Type 0
-IsStoppedAt left node = IfSome left (λ all. (length all ≤ 1048576) × IsScript all × Stops (commands_in all) node)
+IsStoppedAt left node = IfSome left (λ all. (length all ≤ SCRIPT_LIMIT) × IsScript all × Stops (commands_in all) node)
 
 abbrev pub IsOverfull : Option (List ℕ) → Type 0
-IsOverfull left = IfSome left (λ all. (length all ≤ 1048576) × IsScript all × Overflows (commands_in all))
+IsOverfull left = IfSome left (λ all. (length all ≤ SCRIPT_LIMIT) × IsScript all × Overflows (commands_in all))
 
 pub unplayed : (left : Option (List ℕ)) (fault : PlayFault) → IsPlayFault fault.fault → IsNamed fault.node fault.fault → (fault.fault ≡ TooLong → IsTooLong left)
     → ((line : ℕ) → fault.fault ≡ BadScript line → IsBadAt left line) → (fault.fault ≡ Failed → IsStoppedAt left fault.node) → (fault.fault ≡ Full → IsOverfull left) → IsUnplayed left fault
 unplayed left fault cause named too_long line stops full = record { cause = cause; named = named; too_long = too_long; line = line; stops = stops; full = full }
 
 abbrev pub IsOfScript : Option (List ℕ) → Type 0
-IsOfScript left = IfSome left (λ all. (length all ≤ 1048576) × IsScript all)
+IsOfScript left = IfSome left (λ all. (length all ≤ SCRIPT_LIMIT) × IsScript all)
 
 pub unplayed_in_threads : (left : Option (List ℕ)) (fault : PlayFault) → IsThreadsFault fault.fault → IsNamed fault.node fault.fault → (fault.fault ≡ TooLong → IsTooLong left)
     → ((line : ℕ) → fault.fault ≡ BadScript line → IsBadAt left line) → ((stage : Stage) → fault.fault ≡ Refused stage → IsOfScript left) → (fault.fault ≡ Full → IsOfScript left) → (IsOfTheNodes fault.fault → IfSome left (λ all. AreGivenUp all fault.node fault.fault)) → IsUnplayedInThreads left fault

@@ -11,10 +11,9 @@ ghost use Rattle.scp_line_cli.specs.inside.Serving.{IsTold, IsWritten, IsUnplaye
 use crate::asked::{Asked, Mode, read_words};
 use scp_device::write_numbered;
 use scp_line::{
-    PlayFault, ReportOut, SCRIPT_LIMIT, ScriptIn, check, play, play_in_threads, show, status,
-    write_text,
+    PlayFault, ReportOut, ScriptIn, check, play, play_in_threads, show, status, write_text,
 };
-use scp_types::{Fault, Stage};
+use scp_types::{Fault, SCRIPT_LIMIT, Stage};
 use std::alloc::Global;
 use std::sync::Wait;
 use std::thread::Threads;

@@ -6,6 +6,7 @@ use Rattle.std.specs.Prelude.{flat_map, nat_lt, if◌then◌else◌}
 use Rattle.std.specs.List.{AllZip}
 use Rattle.std.proofs.lemmas.Grind.{flat_map-append}
 use Rattle.std.proofs.lemmas.Bool.Decides.{nat_tests}
+use Rattle.scp_types.specs.declared.limits.TheConstants.{WINDOW}
 use Rattle.scp_wire.specs.declared.message.Message.{Message}
 use Rattle.scp_wire.specs.Message.{message_value, SpellsMessage}
 use Rattle.scp_ledger.specs.declared.journal.Decision.{Decision}
@@ -78,8 +79,8 @@ slots_more v name a b c link k lowest is p q =
     (says_on name a b c (slots_again v link k) (again_at v link (v.lowest + k)) p (subst (λ (j : ℕ). SaysAgain name (again_at v link (j + k)) b c) is q))
 
 -- all that is said once more, of equal names, decisions and ledgers
-pub again_as : (name name' a b : List ℕ) (ds : List Decision) (v w : KvLedger) (link : ℕ) → name ≡ name' → ds ≡ w.decisions → v ≡ w → SaysAgain name (decided_again ds ++ slots_again v link 16) a b → SaysAgain name' (again_of w link) a b
+pub again_as : (name name' a b : List ℕ) (ds : List Decision) (v w : KvLedger) (link : ℕ) → name ≡ name' → ds ≡ w.decisions → v ≡ w → SaysAgain name (decided_again ds ++ slots_again v link WINDOW) a b → SaysAgain name' (again_of w link) a b
 again_as name name' a b ds v w link p q s g =
     subst (λ (n : List ℕ). SaysAgain n (again_of w link) a b) p
-    (subst (λ (u : KvLedger). SaysAgain name (decided_again w.decisions ++ slots_again u link 16) a b) s
-    (subst (λ (l : List Decision). SaysAgain name (decided_again l ++ slots_again v link 16) a b) q g))
+    (subst (λ (u : KvLedger). SaysAgain name (decided_again w.decisions ++ slots_again u link WINDOW) a b) s
+    (subst (λ (l : List Decision). SaysAgain name (decided_again l ++ slots_again v link WINDOW) a b) q g))

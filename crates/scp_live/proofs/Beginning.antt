@@ -2,7 +2,7 @@
 use Rattle.std.proofs.Common.{◌≡◌, ℕ, List, [], ◌∷◌, ◌++◌, sym, ◌∙◌, ap, false, subst, append_assoc, refl, inl, inr, ⊎_elim}
 use Rattle.std.specs.Prelude.{◌⊎◌, ◌↔◌, Result, Ok, Err, IfOk, IfErr, map, codes}
 use Rattle.scp_types.specs.declared.fault.Fault.TheVariants.{BadConfig, NoMemory}
-use Rattle.scp_core.specs.Config.{IsConfig}
+use Rattle.scp_core.specs.Config.{IsConfigOfMany}
 use Rattle.hex.specs.Hex.{encode_lower}
 use Rattle.scp_types.specs.declared.fault.Fault.{Fault}
 use Rattle.scp_core.specs.declared.config.Config.{Config}
@@ -21,11 +21,11 @@ is_new (Ok live) settings config names nodes c n m config_is names_is nodes_are 
 is_new (Err f) settings config names nodes c n m config_is names_is nodes_are theorem = tt
 
 -- why there is no new node
-pub new_only : (r : Result LiveView Fault) (settings : Settings) (config : Config) → config ≡ config_in settings → (r ≡ Err BadConfig) ↔ (¬ (IsConfig config)) → IfErr r (λ f. (f ≡ BadConfig) ⊎ (f ≡ NoMemory)) → IfErr r (λ f. (f ≡ NoMemory) ⊎ ((f ≡ BadConfig) × ¬ (IsConfig (config_in settings))))
+pub new_only : (r : Result LiveView Fault) (settings : Settings) (config : Config) → config ≡ config_in settings → (r ≡ Err BadConfig) ↔ (¬ (IsConfigOfMany config)) → IfErr r (λ f. (f ≡ BadConfig) ⊎ (f ≡ NoMemory)) → IfErr r (λ f. (f ≡ NoMemory) ⊎ ((f ≡ BadConfig) × ¬ (IsConfigOfMany (config_in settings))))
 new_only (Ok live) settings config is refused only = tt
 new_only (Err f) settings config is refused only =
     ⊎_elim
-    (λ (bad : f ≡ BadConfig). inr (bad, λ fit. refused.0 (ap (λ (x : Fault). Err x) bad) (subst (λ (c : Config). IsConfig c) (sym is) fit)))
+    (λ (bad : f ≡ BadConfig). inr (bad, λ fit. refused.0 (ap (λ (x : Fault). Err x) bad) (subst (λ (c : Config). IsConfigOfMany c) (sym is) fit)))
     (λ (memory : f ≡ NoMemory). inl memory)
     only
 

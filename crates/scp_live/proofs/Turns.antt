@@ -4,7 +4,7 @@ use Rattle.std.specs.Prelude.{min, length}
 use Rattle.std.proofs.lemmas.Bool.{cases_order}
 use Rattle.std.proofs.lemmas.List.{map-append}
 use Rattle.scp_driver.specs.Kv.{kv_says}
-use Rattle.scp_types.specs.declared.limits.TheConstants.{PEER_LIMIT}
+use Rattle.scp_types.specs.declared.limits.TheConstants.{LINK_LIMIT, ROUND_LIMIT}
 use Rattle.scp_core.specs.declared.config.Config.{Config}
 use Rattle.scp_core.specs.History.{Exchange}
 use Rattle.scp_core.specs.Kv.{NodeView}
@@ -21,12 +21,12 @@ moving_does (suc n) a b heard t = subst (λ (h : List Exchange). Does a h b) (sy
 
 pub rests_does : (calm : Bool) (a b : NodeView) (heard : List Exchange) → Rests calm a heard b → Does a heard b
 rests_does true a b heard r = subst (λ (h : List Exchange). Does a h b) (sym r.2.split) (does_on a r.2.mid b r.2.first r.2.rest (moving_does r.0 a r.2.mid r.2.first r.2.one) r.2.two.0)
-rests_does false a b heard r = moving_does 100000 a b heard r
+rests_does false a b heard r = moving_does ROUND_LIMIT a b heard r
 
 -- ---- as many turns have the same events
 
 pub same_links : (v w : NodeView) → v.config ≡ w.config → links_of v ≡ links_of w
-same_links v w e = ap (λ (c : Config). min (length c.peers) PEER_LIMIT) e
+same_links v w e = ap (λ (c : Config). min (length c.peers) LINK_LIMIT) e
 
 same_turn : (v w m n : NodeView) (x y : List Exchange) → v.config ≡ w.config → IsTurn v x m → IsTurn w y n → events_of x ≡ events_of y
 same_turn v w m n x y e s t = s ∙ ap stage_events (same_links v w e) ∙ sym t
@@ -103,9 +103,9 @@ rests_events : Laws → (calm stopped : Bool) (p x y : List Exchange) (a b v w :
 rests_events law true true p x y a b v w both r s run runs =
     let e : r.0 ≡ s.0 = as_many law p x y a b v w both r s run runs in
     rest_events s.0 a b v w x y both.config (subst (λ (k : ℕ). Then (AreMovingTurns k) (IsStillTurn kv_says) a x v) e r.2) s.2
-rests_events law true false p x y a b v w both r s run runs = absurd (goes_no_further law 100000 r.0 p r.2.first r.2.rest y a b r.2.mid v w r.1 both r.2.one r.2.two s run runs)
-rests_events law false true p x y a b v w both r s run runs = absurd (goes_no_further law 100000 s.0 p s.2.first s.2.rest x b a s.2.mid w v s.1 (both_turned p a b both) s.2.one s.2.two r runs run)
-rests_events law false false p x y a b v w both r s run runs = moving_events 100000 a b v w x y both.config r s
+rests_events law true false p x y a b v w both r s run runs = absurd (goes_no_further law ROUND_LIMIT r.0 p r.2.first r.2.rest y a b r.2.mid v w r.1 both r.2.one r.2.two s run runs)
+rests_events law false true p x y a b v w both r s run runs = absurd (goes_no_further law ROUND_LIMIT s.0 p s.2.first s.2.rest x b a s.2.mid w v s.1 (both_turned p a b both) s.2.one s.2.two r runs run)
+rests_events law false false p x y a b v w both r s run runs = moving_events ROUND_LIMIT a b v w x y both.config r s
 
 -- both come to rest by the same turns
 pub same_rest : Laws → (calm stopped : Bool) (p x y : List Exchange) (a b v w : NodeView) → Both p a b → Rests calm a x v → Rests stopped b y w → v.failed ≡ false → w.failed ≡ false → Same p x y v w

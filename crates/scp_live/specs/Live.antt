@@ -1,5 +1,6 @@
 -- A node with what was reported to its host, and the lines that report an event (this project's profile).
 use Rattle.std.specs.Prelude.{◌≡◌, ℕ, List, [], ◌++◌, length, drop, flat_map}
+use Rattle.scp_types.specs.declared.limits.TheConstants.{WINDOW}
 use Rattle.scp_timers.specs.declared.running.Timer.{Timer}
 use Rattle.scp_timers.specs.Timers.{AreTimers}
 use Rattle.sha2.specs.Sha256.{sha256}
@@ -62,7 +63,7 @@ told_of names before after' reply old heard new =
 
 -- The timers that the host of the node should run.
 abbrev pub AreTimersOf : NodeView → List Timer → Type 0
-AreTimersOf v timers = AreTimers v.ledger.machines v.ledger.lowest 16 timers
+AreTimersOf v timers = AreTimers v.ledger.machines v.ledger.lowest WINDOW timers
 
 -- What an event did and how it was reported. It was an episode; its lines follow the text; the digest is that of the lines of what was
 -- sent.

@@ -17,13 +17,10 @@ use scp_envelope::{Envelope, SharedEnvelope, Signature, Statement};
 use scp_ledger::Ledger;
 use scp_live_lines::write_again;
 use scp_slot::SlotMachine;
-use scp_types::{Fault, NodeId, Slot};
+use scp_types::{Fault, NodeId, Slot, WINDOW};
 use scp_vote::StatementKind;
 use scp_wire::{BoxedEnvelope, Message, encode};
 use std::alloc::Global;
-
-/// How many decisions are sent once more, and how many slots are open (this project's profile).
-const WINDOW: u64 = 16;
 
 /// Adds the line of a message.
 fn say(alloc: Global, text: &mut String, name: &str, message: &Message) -> Result<(), Fault>
@@ -62,7 +59,7 @@ fn say_origin(alloc: Global, text: &mut String, name: &str, origin: &Origin) -> 
 
 /// The last decisions, at most 16.
 fn last(decisions: &[SharedDecision]) -> &[SharedDecision]
-    ensures { result.now ≡ last_of 16 decisions.now }
+    ensures { result.now ≡ last_of WINDOW decisions.now }
 {
     behind(decisions, decisions.len().saturating_sub(WINDOW as usize))
 }
@@ -231,7 +228,7 @@ fn say_slots(
     ledger: &Ledger<KvDriver>,
     link: u8,
 ) -> Result<(), Fault>
-    ensures said { OnOk result (SaysAgain name.now (slots_again ledger.now link 16) (string_bytes text.old) (string_bytes text.new)) }
+    ensures said { OnOk result (SaysAgain name.now (slots_again ledger.now link WINDOW) (string_bytes text.old) (string_bytes text.new)) }
     ensures only { IfErr result (λ f. (f ≡ Fault.NoMemory) ⊎ (f ≡ Fault.TooLong)) }
 {
     for ahead in 0..WINDOW {

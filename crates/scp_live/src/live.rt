@@ -1,7 +1,7 @@
 //! A live node.
 ghost use Rattle.std.specs.Prelude.{◌≡◌, ◌⊎◌, ◌↔◌, [], false, true, map, IfOk, IfErr, OnOk, IsErrOf, Err, string_bytes};
 ghost use Rattle.scp_types.specs.declared.fault.Fault.{Fault};
-ghost use Rattle.scp_core.specs.Config.{IsConfig};
+ghost use Rattle.scp_core.specs.Config.{IsConfigOfMany};
 ghost use Rattle.scp_core.specs.Node.{accepts_at};
 ghost use Rattle.scp_core.specs.Kv.{LedgerTheorem};
 ghost use Rattle.scp_turn.specs.Turn.{links_of};
@@ -11,11 +11,11 @@ ghost use Rattle.scp_episode.specs.Episode.{IsOfHost, finds_full};
 ghost use Rattle.scp_live.specs.Live.{IsTold, AreTimersOf};
 
 use crate::acting;
-use scp_core::{Config, Event, KvDriver, Node, PEER_LIMIT};
+use scp_core::{Config, Event, KvDriver, Node};
 use scp_live_config::Named;
 use scp_timers::{Timer, timers};
 use scp_turn::Watch;
-use scp_types::{Fault, Hash};
+use scp_types::{Fault, Hash, LINK_LIMIT};
 use std::alloc::Global;
 use std::marker::Model;
 
@@ -59,7 +59,7 @@ impl Model for Live {
 
 impl Live {
     /// A node that has received no event, the names of its peers, in their order, and the names of all nodes. Refused by `BadConfig` when
-    /// `Node::new` is, otherwise by `NoMemory`.
+    /// `Node::of_many` is, otherwise by `NoMemory`.
     pub fn new(
         alloc: Global,
         config: Config,
@@ -73,10 +73,10 @@ impl Live {
         ensures nodes { IfOk result (λ live. live.nodes ≡ nodes.items) }
         ensures timers { IfOk result (λ live. AreTimersOf live.node live.timers) }
         ensures runs { IfOk result (λ live. live.node.failed ≡ false) }
-        ensures refused { result ≡ Err Fault.BadConfig ↔ ¬ (IsConfig config) }
+        ensures refused { result ≡ Err Fault.BadConfig ↔ ¬ (IsConfigOfMany config) }
         ensures only { IfErr result (λ f. (f ≡ Fault.BadConfig) ⊎ (f ≡ Fault.NoMemory)) }
     {
-        let node = Node::new(alloc, config, KvDriver)?;
+        let node = Node::of_many(alloc, config, KvDriver)?;
         let timers = timers(alloc, node.ledger())?;
         Ok(Live {
             alloc,
@@ -146,7 +146,7 @@ impl Live {
     pub fn links(&self) -> u8
         ensures { result ≡ links_of self.now.node }
     {
-        self.node.peers().len().min(PEER_LIMIT) as u8
+        self.node.peers().len().min(LINK_LIMIT as usize) as u8
     }
 
     /// Whether a link is open and has room for what its peer sends.

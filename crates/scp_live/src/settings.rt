@@ -1,6 +1,6 @@
 //! The settings that a text gives, the node with these settings, and the first line of its log.
 ghost use Rattle.std.specs.Prelude.{◌≡◌, ◌⊎◌, IfOk, IfErr, IsOkUnless};
-ghost use Rattle.scp_core.specs.Config.{IsConfig};
+ghost use Rattle.scp_core.specs.Config.{IsConfigOfMany};
 ghost use Rattle.scp_live_log.specs.Log.{IsLine};
 ghost use Rattle.scp_live.specs.Beginning.{Configures, config_in, header_of, IsNew};
 ghost use Rattle.scp_live.specs.Failing.{IsConfigFault};
@@ -64,7 +64,7 @@ fn copied(alloc: Global, names: &[Named]) -> Result<Vec<Named>, AllocError>
 pub fn begun(alloc: Global, settings: &Settings) -> Result<Live, Fault>
     ensures new { IfOk result (IsNew settings.now) }
     ensures live { IfOk result (λ live. IsLive live.node) }
-    ensures only { IfErr result (λ f. (f ≡ Fault.NoMemory) ⊎ ((f ≡ Fault.BadConfig) × ¬ (IsConfig (config_in settings.now)))) }
+    ensures only { IfErr result (λ f. (f ≡ Fault.NoMemory) ⊎ ((f ≡ Fault.BadConfig) × ¬ (IsConfigOfMany (config_in settings.now)))) }
 {
     let config = config_of(alloc, settings)?;
     let nodes = copied(alloc, settings.names.as_slice())?;

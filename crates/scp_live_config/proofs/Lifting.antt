@@ -3,6 +3,7 @@ use Rattle.std.proofs.Common.{◌≡◌, ℕ, ◌<◌, List, length, map, Option
 use Rattle.std.specs.List.{slice_get}
 use Rattle.std.specs.Prelude.{IsSomeAnd}
 use Rattle.std.proofs.lemmas.Option.{same_Some, none-some}
+use Rattle.scp_types.specs.declared.limits.TheConstants.{LINK_LIMIT}
 use Rattle.toml.specs.Data.{Data, Items, Members}
 use Rattle.toml.specs.Parse.{parse_document}
 use Rattle.toml.specs.Errors.{IsMemory, IsWithin, span_start}
@@ -57,7 +58,7 @@ peers_wrong names node doc values (config.Wrong other) says own there told = abs
 pub no_peers : (doc : Members) → None ≡ option_map values_of (peers_in doc) → AreNoPeers doc
 no_peers doc e items there = absurd (none-some items (sym (no_array values_of (peers_in doc) e) ∙ there))
 
-pub many_peers : (doc : Members) (values : List Data) → Some values ≡ option_map values_of (peers_in doc) → 7 < length values → AreNoPeers doc
+pub many_peers : (doc : Members) (values : List Data) → Some values ≡ option_map values_of (peers_in doc) → LINK_LIMIT < length values → AreNoPeers doc
 many_peers doc values e many items there =
     let a = array_there values_of (peers_in doc) values e in
     let same : a.0 ≡ items = same_Some a.0 items (sym a.1 ∙ there) in

@@ -4,6 +4,7 @@ use Rattle.std.proofs.lemmas.List.{length-map}
 use Rattle.std.specs.List.{slice_get, AllByRecursion}
 use Rattle.std.proofs.lemmas.Option.{same_Some, none-some, slice_get-map}
 use Rattle.std.proofs.lemmas.Bool.{false≢true, cases_Bool}
+use Rattle.scp_types.specs.declared.limits.TheConstants.{LINK_LIMIT}
 use Rattle.toml.specs.Data.{Data, Items, Members, as_table, get_member}
 use Rattle.scp_xdr.specs.Tree.{Trees, no_trees, tree_then, row_len}
 use Rattle.scp_quorum.specs.QuorumTree.{Level, QuorumTree}
@@ -192,8 +193,8 @@ refuted doc s wrong.Node good bad =
     let same : bad.0 ≡ s.names.items = same_names doc bad.0 s.names.items bad.1 good.names in
     both s.node good.node (subst (λ (ns : List Identity). node_in ns doc ≡ None) same bad.2)
 refuted doc s wrong.Peers good bad =
-    let many : 7 < length (values_of good.peers.said.0) = bad good.peers.said.0 good.peers.said.1 in
-    let few : length s.peers.items ≤ 7 = good.peers.few in
+    let many : LINK_LIMIT < length (values_of good.peers.said.0) = bad good.peers.said.0 good.peers.said.1 in
+    let few : length s.peers.items ≤ LINK_LIMIT = good.peers.few in
     let lens : length (map (name_said s.names.items) (values_of good.peers.said.0)) ≡ length (map Some s.peers.items) = ap length good.peers.said.2 in
     let same : length (values_of good.peers.said.0) ≡ length s.peers.items = sym (length-map (values_of good.peers.said.0) (name_said s.names.items)) ∙ lens ∙ length-map s.peers.items Some in
     omega arith

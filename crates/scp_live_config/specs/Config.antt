@@ -1,6 +1,7 @@
 -- What the document of a configuration means (this project's profile).
 use Rattle.std.specs.Prelude.{◌≡◌, ◌≢◌, ℕ, ◌≤◌, List, length, map, Option, Some, None, option_and_then, codes}
 use Rattle.std.specs.List.{AllByRecursion}
+use Rattle.scp_types.specs.declared.limits.TheConstants.{LINK_LIMIT}
 use Rattle.toml.specs.Data.{Data, Items, Members, no_members, get_member, as_table, as_array}
 use Rattle.scp_quorum.specs.Sane.{IsSane}
 use Rattle.scp_live_config.specs.Names.{Identity, AreNames, HasOnly, NoTwo, values_of, name_said, number_to}
@@ -25,10 +26,10 @@ node_in names doc = option_and_then (name_said names) (get_member (codes "NODE")
 abbrev pub peers_in : Members → Option Items
 peers_in doc = option_and_then as_array (get_member (codes "PEERS") doc)
 
--- PEERS is an array of at most 7 names, and it gives these peers in this order. No name comes twice, and none is the node's own.
+-- PEERS is an array of at most 100 names, and it gives these peers in this order. No name comes twice, and none is the node's own.
 pub record ArePeers (names : List Identity) (node : Identity) (doc : Members) (peers : List Identity) : Type 0 where
   pub said : (items : Items) × (peers_in doc ≡ Some items) × (map (name_said names) (values_of items) ≡ map Some peers)
-  pub few : length peers ≤ 7
+  pub few : length peers ≤ LINK_LIMIT
   pub once : NoTwo (λ peer. peer.name) peers
   pub others : AllByRecursion (λ peer. peer.name ≢ node.name) peers
 

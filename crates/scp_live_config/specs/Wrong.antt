@@ -2,6 +2,7 @@
 use Rattle.std.specs.Prelude.{◌≡◌, ◌⊎◌, ℕ, ◌+◌, ◌-◌, ◌<◌, ◌≤◌, false, List, [], ◌∷◌, length, map, Option, Some, None, codes, string_bytes, IsSomeAnd, take, count_by, ◌==◌}
 use Rattle.std.specs.List.{slice_get, IsDistinct}
 use Rattle.std.specs.Ordering.{eq_by_cmp}
+use Rattle.scp_types.specs.declared.limits.TheConstants.{LINK_LIMIT}
 use Rattle.toml.specs.Data.{Data, Items, Members, get_member, as_table}
 use Rattle.scp_types.specs.declared.names.NodeId.{NodeId}
 use Rattle.scp_xdr.specs.Kind.{Fits}
@@ -79,9 +80,9 @@ IsPeerTwice names doc i = (j : ℕ) × (one other : Identity) × (j < i) × IsPe
 abbrev pub IsOwnPeer : List Identity → Identity → Members → ℕ → Type 0
 IsOwnPeer names node doc i = (peer : Identity) × IsPeerAt names doc i (Some peer) × (peer.name ≡ node.name)
 
--- PEERS isn't an array, or has more than 7 values.
+-- PEERS isn't an array, or has more than 100 values.
 abbrev pub AreNoPeers : Members → Type 0
-AreNoPeers doc = (items : Items) → peers_in doc ≡ Some items → 7 < length (values_of items)
+AreNoPeers doc = (items : Items) → peers_in doc ≡ Some items → LINK_LIMIT < length (values_of items)
 
 -- ---- the whole
 

@@ -12,11 +12,9 @@ use crate::names::{name_said, named};
 use crate::settings::Named;
 use crate::table::find;
 use crate::wrong::Wrong;
+use scp_types::LINK_LIMIT;
 use std::alloc::Global;
 use toml::{Table, Value};
-
-/// The most peers of a node.
-const MOST: usize = 7;
 
 /// The name and id of the node itself, which `NODE` gives.
 pub fn read_node(alloc: Global, names: &[Named], doc: &Table) -> Result<Named, ConfigFault>
@@ -107,7 +105,7 @@ pub fn read_peers(
     let Some(values) = peers_at(doc) else {
         return Err(ConfigFault::Wrong(Wrong::Peers));
     };
-    if values.len() > MOST {
+    if values.len() > LINK_LIMIT as usize {
         return Err(ConfigFault::Wrong(Wrong::Peers));
     }
     match read_each(alloc, names, node, values) {

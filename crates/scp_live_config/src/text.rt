@@ -153,7 +153,7 @@ fn expected_words(wrong: &Wrong) -> &'static str
         Wrong::Id(_) => "64 hexadecimal digits, or a number, 1 to 255",
         Wrong::SameId { .. } => "another id than NODES.",
         Wrong::Node | Wrong::Peer(_) => "a name that stands in NODES",
-        Wrong::Peers => "an array of at most 7 names",
+        Wrong::Peers => "an array of at most 100 names",
         Wrong::PeerTwice(_) => "a name only once",
         Wrong::PeerIsNode(_) => "another node than NODE",
         Wrong::Set | Wrong::Capacities => "a table",

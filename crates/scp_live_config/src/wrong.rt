@@ -52,7 +52,7 @@ pub enum Wrong {
     SameId { name: String, other: String },
     /// `NODE` isn't a name from `NODES`.
     Node,
-    /// `PEERS` isn't an array of at most 7 values.
+    /// `PEERS` isn't an array of at most 100 values.
     Peers,
     /// The value at this index of `PEERS` isn't a name from `NODES`.
     Peer(usize),

@@ -3,7 +3,7 @@ use Rattle.std.proofs.Common.{◌≡◌, ℕ, true, List, [], sym, ap, subst, in
 use Rattle.std.specs.Prelude.{◌≢◌, ◌⊎◌, Result, Ok, Err, IfErr, IsErrOf}
 use Rattle.scp_types.specs.declared.fault.Fault.{Fault}
 use Rattle.scp_types.specs.declared.fault.Fault.TheVariants.{NoMemory, TooLong, BadConfig, JournalFull, Device}
-use Rattle.scp_turn.specs.scp_core.specs.Config.{IsConfig}
+use Rattle.scp_turn.specs.scp_core.specs.Config.{IsConfigOfMany}
 use Rattle.scp_turn.specs.scp_core.specs.History.{Exchange}
 use Rattle.scp_turn.specs.scp_core.specs.Kv.{TheoremGivesLedger, LedgerGivesHeadline}
 use Rattle.scp_live.specs.scp_episode.specs.Episode.{finds_full}
@@ -38,11 +38,11 @@ serve_fault {T} old new disk disk' heard f device quiet full only =
     only
 
 -- why no node is made
-pub unmade : (settings : Settings) (f : Fault) → (f ≡ NoMemory) ⊎ ((f ≡ BadConfig) × ¬ (IsConfig (config_in settings))) → (Failed f ≡ Failed NoMemory) ⊎ ((Failed f ≡ Failed BadConfig) × ¬ (IsConfig (config_in settings)))
+pub unmade : (settings : Settings) (f : Fault) → (f ≡ NoMemory) ⊎ ((f ≡ BadConfig) × ¬ (IsConfigOfMany (config_in settings))) → (Failed f ≡ Failed NoMemory) ⊎ ((Failed f ≡ Failed BadConfig) × ¬ (IsConfigOfMany (config_in settings)))
 unmade settings f only =
     ⊎_elim
     (λ (e : f ≡ NoMemory). inl (ap (λ (x : Fault). Failed x) e))
-    (λ (bad : (f ≡ BadConfig) × ¬ (IsConfig (config_in settings))). inr (ap (λ (x : Fault). Failed x) bad.0, bad.1))
+    (λ (bad : (f ≡ BadConfig) × ¬ (IsConfigOfMany (config_in settings))). inr (ap (λ (x : Fault). Failed x) bad.0, bad.1))
     only
 
 -- what stopped from a new node holds its headline

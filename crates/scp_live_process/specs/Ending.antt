@@ -4,7 +4,7 @@ use Rattle.std.specs.Prelude.{ℕ, ◌≡◌, ◌⊎◌, ◌↔◌, ◌<◌, tru
 use Rattle.scp_types.specs.declared.fault.Fault.{Fault}
 use Rattle.scp_types.specs.declared.fault.Fault.TheVariants.{NoMemory, TooLong, AlreadyOpen, BadConfig, JournalFull, Device}
 use Rattle.scp_device.specs.Device.{Fails, Gains, GainsPart}
-use Rattle.scp_turn.specs.scp_core.specs.Config.{IsConfig}
+use Rattle.scp_turn.specs.scp_core.specs.Config.{IsConfigOfMany}
 use Rattle.scp_turn.specs.scp_core.specs.History.{Exchange}
 use Rattle.scp_turn.specs.scp_core.specs.Kv.{LedgerTheorem}
 use Rattle.scp_turn.specs.scp_core.specs.Headline.{HoldsHeadline}
@@ -155,7 +155,7 @@ pub record StopsAs {L : Type 0} (holds may_leave : L → List ℕ → Type 0) (f
 -- No node was made: there was no memory for it, or no node can have these settings. Nothing was read or written.
 pub record IsUnmade (settings : Settings) (before after' : Streams) (fault : LogFault) : Type 0 where
   pub same : after' ≡ before
-  pub why : (fault ≡ Failed NoMemory) ⊎ ((fault ≡ Failed BadConfig) × ¬ (IsConfig (config_in settings)))
+  pub why : (fault ≡ Failed NoMemory) ⊎ ((fault ≡ Failed BadConfig) × ¬ (IsConfigOfMany (config_in settings)))
 
 -- A node with these settings wasn't made, or it stopped by this fault.
 abbrev pub Stops : {L : Type 0} → (L → List ℕ → Type 0) → (L → List ℕ → Type 0) → (L → ℕ) → Settings → Streams → Streams → L → LogFault → Type 0

@@ -1,6 +1,7 @@
 -- Rounds, one after the other, until the nodes come to rest.
 use Rattle.std.proofs.Common.{◌≡◌, ◌⊎◌, ◌<◌, ◌+◌, ℕ, suc, Bool, true, false, List, length, refl, sym, ◌∙◌, subst, arith}
 use Rattle.std.specs.Prelude.{◌↔◌}
+use Rattle.scp_types.specs.declared.limits.TheConstants.{ROUND_LIMIT}
 use Rattle.scp_turn.specs.Kv.{Noting}
 use Rattle.scp_network.specs.Heard.{Nodes, Heard, Noted, With}
 use Rattle.scp_network.specs.Rounds.{IsStill, IsRound, AreRounds, AllRun, RestsAs, Breaks, HasFailed}
@@ -24,7 +25,7 @@ round_more Note w v z old mid new driven k moved is h a =
       noted_on Note w v z old mid new x y p.1 q.1,
     )) h a)
 
-pub breaks : {W : Type 0} (Note : Noting W) (w v z : W) (old mid new : Nodes) (driven : List Bool) (k number : ℕ) (moved : Bool) → k < 100000 → (k ≡ 0) ⊎ AllRun mid → Hear old mid (With (Noted Note w v) (AreRounds driven (length old) k)) → Acts (Noted Note v z) mid new (IsRound driven (length mid)) moved → HasFailed new number → Hear old new (With (Noted Note w z) (Breaks driven (length old) number))
+pub breaks : {W : Type 0} (Note : Noting W) (w v z : W) (old mid new : Nodes) (driven : List Bool) (k number : ℕ) (moved : Bool) → k < ROUND_LIMIT → (k ≡ 0) ⊎ AllRun mid → Hear old mid (With (Noted Note w v) (AreRounds driven (length old) k)) → Acts (Noted Note v z) mid new (IsRound driven (length mid)) moved → HasFailed new number → Hear old new (With (Noted Note w z) (Breaks driven (length old) number))
 breaks Note w v z old mid new driven k number moved lt run h a f =
     hear_then old mid new (With (Noted Note w v) (AreRounds driven (length old) k)) (With (Noted Note v z) (Did (IsRound driven (length mid)) moved)) (With (Noted Note w z) (Breaks driven (length old) number))
     (λ x y p q. (
@@ -32,7 +33,7 @@ breaks Note w v z old mid new driven k number moved lt run h a f =
       noted_on Note w v z old mid new x y p.1 q.1,
     )) h a
 
-pub rests_still : {W : Type 0} (Note : Noting W) (w v z : W) (old mid new : Nodes) (driven : List Bool) (k : ℕ) (moved : Bool) → k < 100000 → moved ≡ false → Hear old mid (With (Noted Note w v) (AreRounds driven (length old) k)) → Acts (Noted Note v z) mid new (IsRound driven (length mid)) moved → Hear old new (With (Noted Note w z) (RestsAs driven (length old) true))
+pub rests_still : {W : Type 0} (Note : Noting W) (w v z : W) (old mid new : Nodes) (driven : List Bool) (k : ℕ) (moved : Bool) → k < ROUND_LIMIT → moved ≡ false → Hear old mid (With (Noted Note w v) (AreRounds driven (length old) k)) → Acts (Noted Note v z) mid new (IsRound driven (length mid)) moved → Hear old new (With (Noted Note w z) (RestsAs driven (length old) true))
 rests_still Note w v z old mid new driven k moved lt calm h a =
     hear_then old mid new (With (Noted Note w v) (AreRounds driven (length old) k)) (With (Noted Note v z) (Did (IsRound driven (length mid)) moved)) (With (Noted Note w z) (RestsAs driven (length old) true))
     (λ x y p q. (
@@ -40,5 +41,5 @@ rests_still Note w v z old mid new driven k moved lt calm h a =
       noted_on Note w v z old mid new x y p.1 q.1,
     )) h a
 
-pub rests_not : {W : Type 0} (Note : Noting W) (w z : W) (old new : Nodes) (driven : List Bool) (k : ℕ) → k ≡ 100000 → Hear old new (With (Noted Note w z) (AreRounds driven (length old) k)) → Hear old new (With (Noted Note w z) (RestsAs driven (length old) false))
+pub rests_not : {W : Type 0} (Note : Noting W) (w z : W) (old new : Nodes) (driven : List Bool) (k : ℕ) → k ≡ ROUND_LIMIT → Hear old new (With (Noted Note w z) (AreRounds driven (length old) k)) → Hear old new (With (Noted Note w z) (RestsAs driven (length old) false))
 rests_not Note w z old new driven k e h = hear_as old new (With (Noted Note w z) (AreRounds driven (length old) k)) (With (Noted Note w z) (RestsAs driven (length old) false)) (λ heard p. (subst (λ (j : ℕ). AreRounds driven (length old) j old heard new) e p.0, p.1)) h

@@ -1,7 +1,9 @@
 -- What the nodes heard more, while something was done.
-use Rattle.std.specs.Prelude.{ℕ, ◌≡◌, ◌⊎◌, ◌<◌, Bool, true, List, ◌++◌, Option, Some, None, Result, Ok, Err, length, slice_set, ◌&&◌, nat_le, if◌then◌else◌}
+use Rattle.std.specs.Prelude.{ℕ, ◌≡◌, ◌⊎◌, ◌<◌, Bool, true, false, List, ◌++◌, Option, Some, None, Result, Ok, Err, length, slice_set, replicate, ◌&&◌, nat_le, if◌then◌else◌}
+use Rattle.scp_types.specs.declared.limits.TheConstants.{NETWORK_LIMIT}
 use Rattle.scp_turn.specs.scp_core.specs.declared.event.Event.{Event}
 use Rattle.scp_turn.specs.scp_core.specs.declared.event.Reply.{Reply}
+use Rattle.scp_network.specs.declared.network.TheConstants.{PLACES}
 use Rattle.scp_network.specs.Heard.{Nodes, Heard, HaveHeard, IsOne, With}
 use Rattle.scp_network.specs.Rounds.{RestsAs, Breaks, AllRun, place_of}
 
@@ -31,9 +33,13 @@ abbrev pub Offered : (Nodes → List Heard → Nodes → Type 0) → NetworkView
 Offered Also old number event (Some reply) new = IsAnswered Also old.nodes number event reply new.nodes × (new.driven ≡ old.driven)
 Offered Also old number event None new = ((number ≡ 0) ⊎ (length old.nodes < number)) × (new ≡ old)
 
--- a node of this number can be there: it is from 1 to 8
+-- a node of this number can be there: it is from 1 to 101
 abbrev pub is_number : ℕ → Bool
-is_number number = nat_le 1 number && nat_le number 8
+is_number number = nat_le 1 number && nat_le number NETWORK_LIMIT
+
+-- no link is driven
+abbrev pub none_driven : List Bool
+none_driven = replicate PLACES false
 
 -- one more link is driven, if both nodes can be there
 abbrev pub driven_more : List Bool → ℕ → ℕ → List Bool

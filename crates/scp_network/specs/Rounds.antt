@@ -1,6 +1,7 @@
 -- How nodes come to rest: by rounds, in which each node's stages do one step each, and then the next message of each of its outboxes goes out.
 use Rattle.std.specs.Prelude.{ℕ, ◌+◌, ◌-◌, ◌*◌, ◌<◌, ◌≤◌, ◌≡◌, ◌≢◌, ◌⊎◌, Bool, true, false, List, [], ◌∷◌, Option, Some, None, get_or, slice_get, nat_lt, if◌then◌else◌}
 use Rattle.std.specs.List.{AllByRecursion}
+use Rattle.scp_types.specs.declared.limits.TheConstants.{NETWORK_LIMIT, ROUND_LIMIT}
 use Rattle.scp_wire.specs.declared.link.Bytes.{Bytes}
 use Rattle.scp_turn.specs.scp_core.specs.declared.event.Event.{Event}
 use Rattle.scp_turn.specs.scp_core.specs.declared.event.Event.TheVariants as event
@@ -28,9 +29,9 @@ abbrev pub HearsAll : ℕ → List Event → Nodes → List Heard → Nodes → 
 HearsAll number [] = IsNothing
 HearsAll number (event ∷ events) = Then (Hears number event) (HearsAll number events)
 
--- the place of the link from one node to another in a list of eight for each node
+-- the place of the link from one node to another in a list of 101 for each node
 abbrev pub place_of : ℕ → ℕ → ℕ
-place_of from to = (from - 1) * 8 + (to - 1)
+place_of from to = (from - 1) * NETWORK_LIMIT + (to - 1)
 
 -- whether only the caller sends on the link from one node to another
 abbrev pub is_driven : List Bool → ℕ → ℕ → Bool
@@ -89,8 +90,8 @@ IsStillRound driven count old heard new = IsRound driven count old heard new × 
 -- the nodes come to rest: fewer than 100,000 rounds that moved or sent something, and then a still
 -- one; or they don't: 100,000 rounds that moved or sent something
 abbrev pub RestsAs : List Bool → ℕ → Bool → Nodes → List Heard → Nodes → Type 0
-RestsAs driven count true old heard new = (before : ℕ) × (before < 100000) × Then (AreRounds driven count before) (IsStillRound driven count) old heard new
-RestsAs driven count false old heard new = AreRounds driven count 100000 old heard new
+RestsAs driven count true old heard new = (before : ℕ) × (before < ROUND_LIMIT) × Then (AreRounds driven count before) (IsStillRound driven count) old heard new
+RestsAs driven count false old heard new = AreRounds driven count ROUND_LIMIT old heard new
 
 -- rounds until a still one, at most 100,000
 abbrev pub Rests : List Bool → ℕ → Nodes → List Heard → Nodes → Type 0
@@ -114,4 +115,4 @@ AreWellRounds driven count rounds old heard new = AreRounds driven count rounds 
 
 -- the node of this number had failed by the end of a round, at most the 100,000th, and no node had after the round before
 abbrev pub Breaks : List Bool → ℕ → ℕ → Nodes → List Heard → Nodes → Type 0
-Breaks driven count number old heard new = (before : ℕ) × (before < 100000) × Then (AreWellRounds driven count before) (IsRound driven count) old heard new × HasFailed new number
+Breaks driven count number old heard new = (before : ℕ) × (before < ROUND_LIMIT) × Then (AreWellRounds driven count before) (IsRound driven count) old heard new × HasFailed new number

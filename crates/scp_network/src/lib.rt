@@ -1,7 +1,7 @@
 //! Nodes that send to each other, each in its turn.
 //!
 //! What it promises:
-//! - A network has at most eight nodes. The peers of each are the others, in the order of their numbers.
+//! - A network has at most 101 nodes. The peers of each are the others, in the order of their numbers.
 //! - An event that a node is offered is one step of that node, and of no other.
 //! - A settle is rounds. In a round, every node, in the order of their numbers, has each of its stages do one step. Then it drains the next
 //!   message for each other node whose link from it is open and has room, unless the caller drives that link. What is drained is sent there

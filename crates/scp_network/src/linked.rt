@@ -4,10 +4,10 @@ ghost use Rattle.scp_network.specs.Rounds.{link_of};
 ghost use Rattle.scp_network.specs.Linked.{ids_of, HasOthers, IsNetwork};
 
 use scp_turn::Node;
-use scp_types::NodeId;
+use scp_types::{NETWORK_LIMIT, NodeId};
 
-/// The most nodes: one, and its seven peers.
-pub const MOST_NODES: usize = 8;
+/// The most nodes, as the length of a list.
+pub const SIDE: usize = NETWORK_LIMIT as usize;
 
 /// The number of a node's link from another, by the nodes' numbers from 1 on: the other's place among the node's peers.
 pub fn link_from(from: u8, to: u8) -> u8
@@ -56,9 +56,9 @@ fn are_linked(nodes: &[Node]) -> bool
     true
 }
 
-/// Whether there are at most eight nodes, and the peers of each are the others.
+/// Whether there are at most 101 nodes, and the peers of each are the others.
 pub fn is_network(nodes: &[Node]) -> bool
     ensures { IsTrue result ↔ IsNetwork nodes.now }
 {
-    nodes.len() <= MOST_NODES && are_linked(nodes)
+    nodes.len() <= SIDE && are_linked(nodes)
 }

@@ -1,18 +1,21 @@
 //! The nodes, and the links on which the caller alone sends.
-ghost use Rattle.std.specs.Prelude.{◌≡◌, ◌⊎◌, ◌↔◌, IfOk, OnOk, IfErr, Err, replicate, false, None};
+ghost use Rattle.std.specs.Prelude.{◌≡◌, ◌⊎◌, ◌↔◌, IfOk, OnOk, IfErr, Err, None};
 ghost use Rattle.scp_types.specs.declared.fault.Fault.{Fault};
 ghost use Rattle.scp_turn.specs.Watch.{notes};
 ghost use Rattle.scp_network.specs.Heard.{Noted, Anything};
-ghost use Rattle.scp_network.specs.Network.{Drives, Offered, Settled};
+ghost use Rattle.scp_network.specs.Network.{Drives, Offered, Settled, none_driven};
 ghost use Rattle.scp_network.specs.Linked.{IsNetwork};
 
-use crate::linked::{MOST_NODES, is_network};
+use crate::linked::{SIDE, is_network};
 use crate::rounds;
 use crate::turn::hear;
 use scp_turn::{Event, KvDriver, NoWatch, Node, Reply, Watch};
-use scp_types::Fault;
+use scp_types::{Fault, NETWORK_LIMIT};
 use std::alloc::Global;
 use std::marker::Model;
+
+/// The number of links that are told apart: a list for each node that can be there, of as many.
+pub const PLACES: usize = SIDE * SIDE;
 
 /// Nodes that send to each other. They are numbered from 1 on, and the peers of each are the others, in the order of their numbers.
 #[derive(Drop)]
@@ -27,6 +30,8 @@ impl Model for Network {
     ghost Value = { NetworkView };
 
     ghost use Rattle.std.specs.Prelude.{◌≡◌, ◌≤◌, length};
+    ghost use Rattle.scp_types.specs.declared.limits.TheConstants.{NETWORK_LIMIT};
+    ghost use Rattle.scp_network.specs.declared.network.TheConstants.{PLACES};
     ghost use Rattle.std.specs.Coded.{codes};
     ghost use Rattle.scp_xdr.specs.inside.TreeModel.{coded_row};
     ghost use Rattle.scp_quorum.specs.inside.QuorumTree.{coded_level};
@@ -37,15 +42,15 @@ impl Model for Network {
 
     ghost view = { λ a. record { nodes = a.nodes.items; driven = a.driven.items } };
 
-    ghost invariant = { λ a. (length a.nodes.items ≤ 8) × (length a.driven.items ≡ 64) };
+    ghost invariant = { λ a. (length a.nodes.items ≤ NETWORK_LIMIT) × (length a.driven.items ≡ PLACES) };
 }
 
 impl Network {
-    /// A network of these nodes; the caller drives none of its links. Refused by `BadConfig` if there are more than eight, or if the peers of
+    /// A network of these nodes; the caller drives none of its links. Refused by `BadConfig` if there are more than 101, or if the peers of
     /// one aren't the others, in the order of their numbers; else by `NoMemory`.
     pub fn new(alloc: Global, nodes: Vec<Node>) -> Result<Network, Fault>
         ensures nodes { IfOk result (λ network. network.nodes ≡ nodes.items) }
-        ensures driven { IfOk result (λ network. network.driven ≡ replicate 64 false) }
+        ensures driven { IfOk result (λ network. network.driven ≡ none_driven) }
         ensures linked { OnOk result (IsNetwork nodes.items) }
         ensures refused { result ≡ Err Fault.BadConfig ↔ ¬ (IsNetwork nodes.items) }
         ensures only { IfErr result (λ f. (f ≡ Fault.BadConfig) ⊎ (f ≡ Fault.NoMemory)) }
@@ -53,8 +58,8 @@ impl Network {
         if !is_network(nodes.as_slice()) {
             return Err(Fault::BadConfig);
         }
-        let mut driven = Vec::with_capacity(alloc, MOST_NODES * MOST_NODES)?;
-        for _ in 0..MOST_NODES * MOST_NODES {
+        let mut driven = Vec::with_capacity(alloc, PLACES)?;
+        for _ in 0..PLACES {
             driven.push(false)?;
         }
         Ok(Network { nodes, driven })
@@ -71,9 +76,9 @@ impl Network {
     pub fn drive(&mut self, from: u8, to: u8)
         ensures { Drives self.old from to self.new }
     {
-        let here = 1..=MOST_NODES as u8;
+        let here = 1..=NETWORK_LIMIT;
         if here.contains(&from) && here.contains(&to) {
-            let place = usize::from(from - 1) * MOST_NODES + usize::from(to - 1);
+            let place = usize::from(from - 1) * SIDE + usize::from(to - 1);
             if place < self.driven.len() {
                 self.driven[place] = true;
             }

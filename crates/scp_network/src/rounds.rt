@@ -7,16 +7,15 @@ ghost use Rattle.scp_network.specs.inside.Acting.{AcceptsAt, Acts, Transmits};
 ghost use Rattle.scp_network.specs.Heard.{Noted};
 ghost use Rattle.scp_network.specs.Network.{Settled};
 
+use crate::linked::SIDE;
 use crate::turn::{either, hear, work};
 use scp_turn::{Event, KvDriver, Node, Reply, Watch};
-
-/// The most rounds of one settle.
-const MOST_ROUNDS: u32 = 100_000;
+use scp_types::{NETWORK_LIMIT, ROUND_LIMIT};
 
 /// The number of a node's link from another, by the places of both.
 fn link_at(from: usize, to: usize) -> u8
-    requires from { from < 8 }
-    requires to { to < 8 }
+    requires from { from < NETWORK_LIMIT }
+    requires to { to < NETWORK_LIMIT }
     ensures { result ≡ link_of (from + 1) (to + 1) }
 {
     if from < to {
@@ -28,11 +27,11 @@ fn link_at(from: usize, to: usize) -> u8
 
 /// Whether only the caller sends on the link from one node to another, by the places of both.
 fn drives(driven: &[bool], from: usize, to: usize) -> bool
-    requires from { from < 8 }
-    requires to { to < 8 }
+    requires from { from < NETWORK_LIMIT }
+    requires to { to < NETWORK_LIMIT }
     ensures { result ≡ is_driven driven.now (from + 1) (to + 1) }
 {
-    match driven.get(from * 8 + to) {
+    match driven.get(from * SIDE + to) {
         Some(driven) => *driven,
         None => false,
     }
@@ -45,7 +44,7 @@ fn transmit<W: Watch<KvDriver>>(
     from: usize,
     to: usize,
 ) -> bool
-    requires few { length nodes.old.items ≤ 8 }
+    requires few { length nodes.old.items ≤ NETWORK_LIMIT }
     requires from { from < length nodes.old.items }
     requires to { to < length nodes.old.items }
     requires apart { from ≢ to }
@@ -69,7 +68,7 @@ fn carry<W: Watch<KvDriver>>(
     from: usize,
     to: usize,
 ) -> bool
-    requires few { length nodes.old.items ≤ 8 }
+    requires few { length nodes.old.items ≤ NETWORK_LIMIT }
     requires from { from < length nodes.old.items }
     requires to { to < length nodes.old.items }
     ensures { Acts (Noted (notes W.notes_before W.notes_after) watch.old watch.new) nodes.old.items nodes.new.items (Carries driven.now (from + 1) (to + 1)) result }
@@ -87,7 +86,7 @@ fn carry_all<W: Watch<KvDriver>>(
     driven: &[bool],
     from: usize,
 ) -> bool
-    requires few { length nodes.old.items ≤ 8 }
+    requires few { length nodes.old.items ≤ NETWORK_LIMIT }
     requires from { from < length nodes.old.items }
     ensures { Acts (Noted (notes W.notes_before W.notes_after) watch.old watch.new) nodes.old.items nodes.new.items (InOrder (Carries driven.now (from + 1)) (length nodes.old.items)) result }
 {
@@ -106,7 +105,7 @@ fn turn<W: Watch<KvDriver>>(
     driven: &[bool],
     index: usize,
 ) -> bool
-    requires few { length nodes.old.items ≤ 8 }
+    requires few { length nodes.old.items ≤ NETWORK_LIMIT }
     requires index { index < length nodes.old.items }
     ensures { Acts (Noted (notes W.notes_before W.notes_after) watch.old watch.new) nodes.old.items nodes.new.items (IsTurn driven.now (length nodes.old.items) (index + 1)) result }
 {
@@ -118,7 +117,7 @@ fn turn<W: Watch<KvDriver>>(
 
 /// A round of all nodes. Returns whether anything moved or was sent.
 fn round<W: Watch<KvDriver>>(nodes: &mut Vec<Node>, watch: &mut W, driven: &[bool]) -> bool
-    requires few { length nodes.old.items ≤ 8 }
+    requires few { length nodes.old.items ≤ NETWORK_LIMIT }
     ensures { Acts (Noted (notes W.notes_before W.notes_after) watch.old watch.new) nodes.old.items nodes.new.items (IsRound driven.now (length nodes.old.items)) result }
 {
     let mut moved = false;
@@ -131,7 +130,7 @@ fn round<W: Watch<KvDriver>>(nodes: &mut Vec<Node>, watch: &mut W, driven: &[boo
 
 /// The number of the first node that failed, if one did.
 fn failed(nodes: &[Node]) -> Option<u8>
-    requires few { length nodes.now ≤ 8 }
+    requires few { length nodes.now ≤ NETWORK_LIMIT }
     ensures failed { IfSome result (λ number. HasFailed nodes.now number) }
     ensures none { result ≡ None → AllRun nodes.now }
 {
@@ -150,10 +149,10 @@ pub fn settle<W: Watch<KvDriver>>(
     watch: &mut W,
     driven: &[bool],
 ) -> Result<bool, u8>
-    requires few { length nodes.old.items ≤ 8 }
+    requires few { length nodes.old.items ≤ NETWORK_LIMIT }
     ensures { Settled (Noted (notes W.notes_before W.notes_after) watch.old watch.new) driven.now nodes.old.items result nodes.new.items }
 {
-    for _ in 0..MOST_ROUNDS {
+    for _ in 0..ROUND_LIMIT {
         let moved = round(nodes, watch, driven);
         if let Some(number) = failed(nodes.as_slice()) {
             return Err(number);

@@ -1,5 +1,6 @@
 //! The steps of one node among several.
 ghost use Rattle.std.specs.Prelude.{◌≡◌, ◌<◌, ◌≤◌, ◌+◌, ◌||◌, length};
+ghost use Rattle.scp_types.specs.declared.limits.TheConstants.{NETWORK_LIMIT};
 ghost use Rattle.scp_turn.specs.Watch.{notes};
 ghost use Rattle.scp_turn.specs.Turn.{stage_events};
 ghost use Rattle.scp_network.specs.Heard.{Noted};
@@ -16,7 +17,7 @@ pub fn hear<W: Watch<KvDriver>>(
     index: usize,
     event: Event,
 ) -> Reply
-    requires few { length nodes.old.items ≤ 8 }
+    requires few { length nodes.old.items ≤ NETWORK_LIMIT }
     requires index { index < length nodes.old.items }
     ensures { IsAnswered (Noted (notes W.notes_before W.notes_after) watch.old watch.new) nodes.old.items (index + 1) event result nodes.new.items }
 {
@@ -37,7 +38,7 @@ pub fn work<W: Watch<KvDriver>>(
     index: usize,
     links: u8,
 ) -> bool
-    requires few { length nodes.old.items ≤ 8 }
+    requires few { length nodes.old.items ≤ NETWORK_LIMIT }
     requires index { index < length nodes.old.items }
     ensures { Acts (Noted (notes W.notes_before W.notes_after) watch.old watch.new) nodes.old.items nodes.new.items (HearsAll (index + 1) (stage_events links)) result }
 {

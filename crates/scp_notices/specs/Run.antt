@@ -1,5 +1,6 @@
 -- What a run of a script shows, and the notices of it (this project's profile).
 use Rattle.std.specs.Prelude.{ℕ, ◌≡◌, ◌≢◌, Bool, List, [], ◌∷◌, ◌++◌, Some, length, map, slice_get, if◌then◌else◌}
+use Rattle.scp_types.specs.declared.limits.TheConstants.{ROUND_LIMIT}
 use Rattle.scp_types.specs.declared.fault.Fault.TheVariants.{NoMemory as no_memory}
 use Rattle.scp_core.specs.Kv.{NodeView}
 use Rattle.scp_network.specs.Network.{NetworkView}
@@ -48,7 +49,7 @@ noticing = record {
 
 -- a notice for each line in which the nodes didn't come to rest
 abbrev pub unsettled : List ℕ → List Notice
-unsettled cut = map (λ line. Unsettled line 100000) cut
+unsettled cut = map (λ line. Unsettled line ROUND_LIMIT) cut
 
 -- The notices of a run, from the records of its nodes: first the lines that were cut off, and then those that both ways to run a script have.
 abbrev pub run_notices : List Command → List ℕ → List ReportView → List Told → List ℕ → List Notice

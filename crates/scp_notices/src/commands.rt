@@ -8,10 +8,8 @@ ghost use Rattle.scp_notices.specs.inside.Queues.{AreQueues, TakesFrom, TakesAt}
 use crate::notice::Notice;
 use scp_core::CommandFate;
 use scp_script::Command;
+use scp_types::NODE_LIMIT;
 use std::alloc::{AllocError, Global};
-
-/// The most nodes of a script.
-const MOST_NODES: usize = 8;
 
 /// What became of a command that the slot stage of the node of this number took.
 #[derive(Clone, Copy, Debug, PartialEq, Eq)]
@@ -71,7 +69,7 @@ fn queues(alloc: Global, told: &[Told]) -> Result<Vec<Queue>, AllocError>
     ensures { IfOk result (λ queues. AreQueues told.now [] queues.items) }
 {
     let mut queues = Vec::new(alloc);
-    for index in 0..MOST_NODES {
+    for index in 0..NODE_LIMIT {
         let fates = fates_of(alloc, told, index as u8 + 1)?;
         queues.push(Queue { fates, taken: 0 })?;
     }
@@ -99,7 +97,7 @@ fn next_at(queues: &mut Vec<Queue>, place: usize) -> Option<CommandFate>
 #[tactic(auto, using(crate::proofs::Queues::none_taken, crate::proofs::Queues::one_taken))]
 fn fate_of(queues: &mut Vec<Queue>, command: &Command) -> Option<CommandFate>
     requires names { NamesNodes command.now }
-    requires count { length queues.old.items ≡ 8 }
+    requires count { length queues.old.items ≡ NODE_LIMIT }
     ensures { (told : List Told) (before : List Command) → AreQueues told before queues.old.items → (result ≡ fate_behind told before command.now) × AreQueues told (before ++ command.now ∷ []) queues.new.items }
 {
     match teller_of(command) {

@@ -1,6 +1,7 @@
 //! The slots for which nodes applied different values.
 ghost use Rattle.std.specs.Prelude.{◌≡◌, ◌≤◌, ◌++◌, All, IfOk, OnOk, IsOkUnless, length, map};
 ghost use Rattle.std.specs.Option.{option_copied};
+ghost use Rattle.scp_types.specs.declared.limits.TheConstants.{NODE_LIMIT};
 ghost use Rattle.scp_apply.specs.Applied.{AreInOrder, value_of};
 ghost use Rattle.scp_notices.specs.Disagreeing.{choices_from, differ, nodes_with, side_of, sides_of, disagreement, disagreements, most_applied};
 ghost use Rattle.scp_notices.specs.inside.Choices.{choice_seen, values_seen, has_value, side_behind};
@@ -37,7 +38,7 @@ fn choices<'a>(
     slot: u64,
 ) -> Result<Vec<Choice<'a>>, AllocError>
     requires in_order { All (λ report. AreInOrder 1 (applied_in report)) reports.now }
-    requires few { length reports.now ≤ 8 }
+    requires few { length reports.now ≤ NODE_LIMIT }
     requires slot { 1 ≤ slot }
     ensures { IfOk result (λ choices. map choice_seen choices.items ≡ choices_from slot 1 (map applied_in reports.entry.now)) }
 {
@@ -142,7 +143,7 @@ fn sides(alloc: Global, choices: &[Choice<'_>]) -> Result<Sides, Fault>
 /// Adds a notice, if nodes applied different values for the slot.
 fn add_slot(out: &mut Vec<Notice>, reports: &[Report<'_>], slot: u64) -> Result<(), Fault>
     requires in_order { All (λ report. AreInOrder 1 (applied_in report)) reports.now }
-    requires few { length reports.now ≤ 8 }
+    requires few { length reports.now ≤ NODE_LIMIT }
     requires slot { 1 ≤ slot }
     ensures added { OnOk result (out.new.items ≡ out.old.items ++ disagreement (map applied_in reports.now) slot) }
     ensures only_memory { IsOkUnless result Fault.NoMemory }
@@ -170,7 +171,7 @@ fn most(reports: &[Report<'_>]) -> usize
 /// Adds a notice for each slot for which nodes applied different values. Its time grows with the number of slots.
 pub fn add_disagreements(out: &mut Vec<Notice>, reports: &[Report<'_>]) -> Result<(), Fault>
     requires in_order { All (λ report. AreInOrder 1 (applied_in report)) reports.now }
-    requires few { length reports.now ≤ 8 }
+    requires few { length reports.now ≤ NODE_LIMIT }
     ensures added { OnOk result (out.new.items ≡ out.old.items ++ disagreements (map applied_in reports.now)) }
     ensures only_memory { IsOkUnless result Fault.NoMemory }
 {

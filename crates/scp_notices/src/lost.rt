@@ -1,6 +1,7 @@
 //! Own statements that were replaced or dropped before they were sent.
 ghost use Rattle.std.specs.Prelude.{◌≡◌, ◌≤◌, ◌++◌, ◌||◌, OnOk, length, map};
 ghost use Rattle.std.specs.List.{list_any};
+ghost use Rattle.scp_types.specs.declared.limits.TheConstants.{NODE_LIMIT};
 ghost use Rattle.scp_script_check.specs.Nodes.{sends_on as sends_it};
 ghost use Rattle.scp_notices.specs.Lost.{is_silent, lost_to, lost_on, lost_of, all_lost};
 ghost use Rattle.scp_notices.specs.inside.Seen.{lost_in};
@@ -88,7 +89,7 @@ fn add_node(
     node: u8,
 ) -> Result<(), AllocError>
     requires node { 1 ≤ node }
-    requires few { length reports.now ≤ 8 }
+    requires few { length reports.now ≤ NODE_LIMIT }
     ensures { OnOk result (out.new.items ≡ out.old.items ++ lost_of commands.now (map lost_in reports.now) node) }
 {
     for index in 0..reports.len() {
@@ -104,7 +105,7 @@ pub fn add_lost(
     commands: &[Command],
     reports: &[Report<'_>],
 ) -> Result<(), AllocError>
-    requires few { length reports.now ≤ 8 }
+    requires few { length reports.now ≤ NODE_LIMIT }
     ensures { OnOk result (out.new.items ≡ out.old.items ++ all_lost commands.now (map lost_in reports.now)) }
 {
     for index in 0..reports.len() {

@@ -1,5 +1,6 @@
 //! The notices that both ways to run a script have, from the records of its nodes.
 ghost use Rattle.std.specs.Prelude.{◌≡◌, ◌≤◌, ◌++◌, All, OnOk, IsOkUnless, length, map};
+ghost use Rattle.scp_types.specs.declared.limits.TheConstants.{NODE_LIMIT};
 ghost use Rattle.scp_apply.specs.Applied.{AreInOrder};
 ghost use Rattle.scp_script.specs.Nodes.{NamesNodes};
 ghost use Rattle.scp_line.specs.scp_report.specs.Report.{view_of};
@@ -25,7 +26,7 @@ pub fn add_nodes(
 ) -> Result<(), Fault>
     requires names { All NamesNodes commands.now }
     requires count { length lines.now ≡ length commands.now }
-    requires few { length reports.now ≤ 8 }
+    requires few { length reports.now ≤ NODE_LIMIT }
     requires in_order { All (λ report. AreInOrder 1 (applied_in report)) reports.now }
     ensures added { OnOk result (out.new.items ≡ out.old.items ++ nodes_notices commands.now lines.now told.now (map view_of reports.now)) }
     ensures only_memory { IsOkUnless result Fault.NoMemory }

@@ -1,5 +1,6 @@
 //! Playing a script, with notices of what would otherwise pass in silence.
 ghost use Rattle.std.specs.Prelude.{◌≡◌, ◌≢◌, ◌≤◌, ◌++◌, [], All, OnOk, IfOk, IfErr, IsOkUnless, length};
+ghost use Rattle.scp_types.specs.declared.limits.TheConstants.{NODE_LIMIT};
 ghost use Rattle.scp_apply.specs.Applied.{AreInOrder};
 ghost use Rattle.scp_script.specs.Script.{AreAdmitted};
 ghost use Rattle.scp_script.specs.Nodes.{NamesNodes};
@@ -23,11 +24,8 @@ use scp_line::{
 };
 use scp_network::Network;
 use scp_script_check::{ReadFault, Script, read};
-use scp_types::Fault;
+use scp_types::{Fault, ROUND_LIMIT};
 use std::alloc::{AllocError, AllocFailed, Global};
-
-/// The most rounds of one settle.
-const MOST_ROUNDS: u32 = 100_000;
 
 /// Why a script wasn't played to its end.
 #[derive(Clone, Copy, Debug, PartialEq, Eq)]
@@ -100,7 +98,7 @@ fn add_unsettled(out: &mut Vec<Notice>, cut: &[usize]) -> Result<(), AllocError>
     for line in cut {
         out.push(Notice::Unsettled {
             line: *line,
-            rounds: MOST_ROUNDS,
+            rounds: ROUND_LIMIT,
         })?;
     }
     Ok(())
@@ -116,7 +114,7 @@ fn notices_of(
 ) -> Result<Vec<Notice>, Fault>
     requires names { All NamesNodes script.now.commands.items }
     requires count { length script.now.lines.items ≡ length script.now.commands.items }
-    requires few { length network.now.nodes ≤ 8 }
+    requires few { length network.now.nodes ≤ NODE_LIMIT }
     requires in_order { All (λ node. AreInOrder 1 node.applier.applied) network.now.nodes }
     ensures notices { IfOk result (λ notices. notices.items ≡ run_notices script.now.commands.items script.now.lines.items (records_of network.now.nodes) told.now cut.now) }
     ensures only_memory { IsOkUnless result Fault.NoMemory }

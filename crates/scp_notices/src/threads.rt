@@ -1,6 +1,7 @@
 //! Playing a script in threads, with notices of what would otherwise pass in silence.
 ghost use Rattle.std.specs.Prelude.{◌≡◌, ◌≢◌, ◌≤◌, ◌++◌, [], All, OnOk, IfOk, IfErr, IsOkUnless, length, map};
 ghost use Rattle.std.specs.List.{list_any};
+ghost use Rattle.scp_types.specs.declared.limits.TheConstants.{NODE_LIMIT};
 ghost use Rattle.scp_apply.specs.Applied.{AreInOrder};
 ghost use Rattle.scp_script.specs.Script.{AreAdmitted, node_count};
 ghost use Rattle.scp_script.specs.Nodes.{NamesNodes};
@@ -95,7 +96,7 @@ fn add_told(told: &mut Vec<Told>, node: u8, fates: &[CommandFate]) -> Result<(),
 
 /// What the nodes reported of their commands, node 1 first.
 fn told_of(alloc: Global, reports: &[Report<'_>]) -> Result<Vec<Told>, AllocError>
-    requires few { length reports.now ≤ 8 }
+    requires few { length reports.now ≤ NODE_LIMIT }
     ensures { IfOk result (λ told. told.items ≡ told_in (map view_of reports.now)) }
 {
     let mut told = Vec::new(alloc);
@@ -119,7 +120,7 @@ fn notices_of(
     requires admitted { AreAdmitted [] script.now.commands.items }
     requires count { length script.now.lines.items ≡ length script.now.commands.items }
     requires total { length nodes.now ≡ node_count script.now.commands.items }
-    requires few { length nodes.now ≤ 8 }
+    requires few { length nodes.now ≤ NODE_LIMIT }
     requires in_order { All (λ node. AreInOrder 1 node.applied.items) nodes.now }
     ensures notices { IfOk result (λ notices. notices.items ≡ threads_notices script.now.commands.items script.now.lines.items (records_left script.now.commands.items nodes.now (map (λ row. row.items) losses.now)) places.now) }
     ensures only_memory { IsOkUnless result Fault.NoMemory }

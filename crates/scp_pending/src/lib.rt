@@ -32,5 +32,5 @@ pub use laws::{
     what_is_parked_came, what_is_replied_was_asked_for, who_it_is_stays, who_waits_is_listed,
     who_waits_stands_in_order,
 };
-pub use pending::{PARKED_LIMIT, PEER_LIMIT, Pending};
+pub use pending::{PARKED_LIMIT, Pending};
 pub use ready::{Delivery, DropCause, Ready};

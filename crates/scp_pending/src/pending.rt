@@ -32,7 +32,7 @@ use crate::queue::{
 use crate::ready::{Delivery, DropCause, Ready};
 use scp_fetch::{Fetcher, SetStore, Want};
 use scp_quorum::{QuorumSet, SaneSet};
-use scp_types::{ConnId, Fault, Hash, NodeId, Seq};
+use scp_types::{ConnId, Fault, Hash, LINK_LIMIT, NodeId, Seq};
 use scp_wire::{Carried, Cause, Command, Inbound, Message, SideMessage, what_fits_a_link};
 use std::alloc::{AllocError, Global};
 use std::collections::VecDeque;
@@ -41,9 +41,6 @@ use std::sync::Arc;
 
 /// The most messages of one connection that are parked (this project's profile).
 pub const PARKED_LIMIT: usize = 64;
-
-/// The most peers that a node has (this project's profile).
-pub const PEER_LIMIT: usize = 7;
 
 /// Messages that wait for their quorum sets, and what is on its way out. Unless it failed, the connections in a hash's list
 /// are those on which something waits for it, so that nothing needs to be looked at elsewhere.
@@ -84,6 +81,7 @@ struct Parking {
 
 impl Model for Parking {
     ghost use Rattle.std.specs.Prelude.{◌≤◌, length, false};
+    ghost use Rattle.scp_types.specs.declared.limits.TheConstants.{LINK_LIMIT};
     ghost use Rattle.std.specs.Coded.{codes};
     ghost use Rattle.scp_xdr.specs.inside.TreeModel.{coded_row};
     ghost use Rattle.scp_quorum.specs.inside.QuorumTree.{coded_level};
@@ -99,14 +97,14 @@ impl Model for Parking {
       leaving = a.leaving.items;
     } };
 
-    ghost invariant = { λ a. length a.peers.items ≤ 7 };
+    ghost invariant = { λ a. length a.peers.items ≤ LINK_LIMIT };
 }
 
 impl Pending {
     /// A stage of this node that has taken nothing. `peers[l]` is the sender of link l, and `local` is the node's own
     /// quorum set. Takes no memory.
     pub fn new(alloc: Global, me: NodeId, peers: Vec<NodeId>, local: Arc<SaneSet>) -> Pending
-        requires few { length peers.items ≤ PEER_LIMIT }
+        requires few { length peers.items ≤ LINK_LIMIT }
         ensures settled { result.settled ≡ fresh me peers.items local.value }
         ensures pends { Pends me peers.items [] [] result }
         ensures nothing_ready { result.leaving ≡ [] }
@@ -288,7 +286,7 @@ impl Parking {
     /// The number of the link from this node; 0 if it is no peer.
     fn link_number(&self, node: &NodeId) -> u8
         ensures number { result ≡ link_number node.now self.now.settled }
-        ensures few { result < 8 }
+        ensures few { result < LINK_LIMIT }
     {
         match place_of_peer(&self.peers, node) {
             Some(place) => place as u8,

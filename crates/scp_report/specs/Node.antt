@@ -1,6 +1,6 @@
 -- The record of a node that takes one step after another, in a script or live.
 use Rattle.std.specs.Prelude.{ℕ, ◌+◌, List, [], ◌∷◌, Option, Some, None, take, if◌then◌else◌}
-use Rattle.scp_types.specs.declared.limits.TheConstants.{PEER_LIMIT}
+use Rattle.scp_types.specs.declared.limits.TheConstants.{LINK_LIMIT}
 use Rattle.scp_types.specs.declared.names.NodeId.{NodeId}
 use Rattle.scp_kv.specs.Map.{KvMap}
 use Rattle.scp_kv.specs.State.{fold_of}
@@ -27,7 +27,7 @@ report_of number node = record {
   node = number;
   me = node.config.me;
   set = node.config.set;
-  links = links_behind node.outboxes 0 (take PEER_LIMIT node.config.peers);
+  links = links_behind node.outboxes 0 (take LINK_LIMIT node.config.peers);
   journal = node.ledger.journal;
   parked = parked_in node;
   decisions = node.ledger.decisions;

@@ -1,6 +1,6 @@
 -- What a node holds, connection by connection (this project's profile).
 use Rattle.std.specs.Prelude.{ℕ, ◌+◌, List, [], ◌∷◌, ◌++◌, flat_map, nat_lt, take, if◌then◌else◌}
-use Rattle.scp_types.specs.declared.limits.TheConstants.{PEER_LIMIT}
+use Rattle.scp_types.specs.declared.limits.TheConstants.{LINK_LIMIT}
 use Rattle.scp_types.specs.declared.names.ConnId.{ConnId}
 use Rattle.scp_types.specs.declared.names.NodeId.{NodeId}
 use Rattle.scp_wire.specs.Connections.{conn_at}
@@ -24,6 +24,6 @@ abbrev pub parked_behind : NodeView → ℕ → List NodeId → List Parked
 parked_behind v link [] = []
 parked_behind v link (peer ∷ peers) = parked_over v link peer ++ parked_behind v (link + 1) peers
 
--- the same for all links of a node, at most seven, link by link
+-- the same for all links of a node, at most a hundred, link by link
 abbrev pub parked_in : NodeView → List Parked
-parked_in v = parked_behind v 0 (take PEER_LIMIT v.config.peers)
+parked_in v = parked_behind v 0 (take LINK_LIMIT v.config.peers)

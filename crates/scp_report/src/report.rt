@@ -36,7 +36,7 @@ pub struct Report<'a> {
     pub me: NodeId,
     /// Its own quorum set.
     pub set: &'a QuorumSet,
-    /// Its links, in their order: at most seven.
+    /// Its links, in their order: at most a hundred.
     pub links: Vec<LinkReport>,
     pub journal: &'a [Fate],
     /// The connections with messages that wait, each once.

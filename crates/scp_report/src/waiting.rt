@@ -1,11 +1,11 @@
 //! What a node holds, connection by connection.
 ghost use Rattle.std.specs.Prelude.{◌≡◌, ◌≤◌, ◌++◌, IfOk, OnOk, length, take};
-ghost use Rattle.scp_types.specs.declared.limits.TheConstants.{PEER_LIMIT};
+ghost use Rattle.scp_types.specs.declared.limits.TheConstants.{LINK_LIMIT};
 ghost use Rattle.scp_report.specs.Waiting.{parked_of, parked_in, parked_over};
 
 use crate::report::Parked;
-use scp_core::{Node, PEER_LIMIT};
-use scp_types::{ConnId, NodeId};
+use scp_core::Node;
+use scp_types::{ConnId, LINK_LIMIT, NodeId};
 use std::alloc::{AllocError, Global};
 
 /// Adds how many messages of a connection the node holds, if any.
@@ -41,12 +41,12 @@ fn add_link(
     Ok(())
 }
 
-/// The peers of a node's links: the first seven, if there are more.
+/// The peers of a node's links: the first hundred, if there are more.
 pub fn first_peers(peers: &[NodeId]) -> &[NodeId]
-    ensures first { result.now ≡ take PEER_LIMIT peers.now }
-    ensures few { length result.now ≤ PEER_LIMIT }
+    ensures first { result.now ≡ take LINK_LIMIT peers.now }
+    ensures few { length result.now ≤ LINK_LIMIT }
 {
-    match peers.get(..PEER_LIMIT) {
+    match peers.get(..LINK_LIMIT as usize) {
         Some(first) => first,
         None => peers,
     }

@@ -13,6 +13,7 @@ use Rattle.std.proofs.lemmas.List.{map_push, length-append, length-map}
 use Rattle.std.proofs.lemmas.List.Folds.{list_any-append}
 use Rattle.std.proofs.lemmas.List.Sums.{sum_by-cons}
 use Rattle.std.proofs.lemmas.List.Elements.{All-head, All-tail, All-cons, All-nil, All-append}
+use Rattle.scp_types.specs.declared.limits.TheConstants.{NODE_LIMIT}
 use Rattle.scp_types.specs.declared.names.NodeId.{NodeId}
 use Rattle.scp_types.specs.declared.fault.Fault.{Fault}
 use Rattle.scp_xdr.specs.Kind.{Values, Fits}
@@ -91,11 +92,11 @@ values_len n = (simp length-map) ∙ numbers_len n
 ids_len : (n : ℕ) → length (map id_of (numbers n)) ≡ n
 ids_len n = (simp length-map) ∙ numbers_len n
 
-of_all_fits : (count quorum : ℕ) → count ≤ 8 → quorum ≤ count → Fits set_kind (set_value (of_all count quorum))
+of_all_fits : (count quorum : ℕ) → count ≤ NODE_LIMIT → quorum ≤ count → Fits set_kind (set_value (of_all count quorum))
 of_all_fits count quorum few within =
     ((omega arith, (omega (arith, values_len count), omega (arith, values_len count), all_fit (numbers count))), omega arith, omega arith, tt)
 
-pub of_all_sane : (count quorum : ℕ) → count ≤ 8 → 1 ≤ quorum → quorum ≤ count → IsSane (of_all count quorum)
+pub of_all_sane : (count quorum : ℕ) → count ≤ NODE_LIMIT → 1 ≤ quorum → quorum ≤ count → IsSane (of_all count quorum)
 of_all_sane count quorum few one within = record {
   in_range = (one, omega (arith, ids_len count), tt);
   distinct = subst (IsDistinct (eq_by_cmp node_cmp)) (sym (append-nil (map id_of (numbers count)))) (all_distinct count);

@@ -5,12 +5,13 @@ use Rattle.std.proofs.lemmas.Bool.Decides.{nat_tests}
 use Rattle.std.proofs.lemmas.List.{get_or-set_other}
 use Rattle.std.proofs.lemmas.Grind.{get_or-set_at}
 use Rattle.scp_script.specs.declared.links.Link.{Link}
+use Rattle.scp_script.specs.declared.links.TheConstants.{PLACES}
 use Rattle.scp_script.specs.Script.{is_link}
 use Rattle.scp_script.specs.Nodes.{IsSmall}
 use Rattle.scp_script.specs.Reading.{place, no_link, KnowsLink}
 
 -- what a table says of a link behind a change at another or the same
-pub at_put : (table : List Link) (from to from2 to2 : ℕ) (link : Link) → length table ≡ 64 → IsSmall from → IsSmall to → IsSmall from2 → IsSmall to2 →
+pub at_put : (table : List Link) (from to from2 to2 : ℕ) (link : Link) → length table ≡ PLACES → IsSmall from → IsSmall to → IsSmall from2 → IsSmall to2 →
     get_or (set table (place from to) link) (place from2 to2) no_link ≡ (if is_link from2 to2 from to then link else get_or table (place from2 to2) no_link)
 at_put table from to from2 to2 link long f t f2 t2 = by (nat_eq from2 from) (nat_eq to2 to) refl refl
   where
@@ -35,8 +36,8 @@ nothing_at (suc n) zero = refl
 nothing_at (suc n) (suc i) = nothing_at n i
 
 -- a new table says of each link that it was never opened
-pub nothing_known : (from to : ℕ) → KnowsLink (record { 0 = replicate 64 no_link }) [] from to
+pub nothing_known : (from to : ℕ) → KnowsLink (record { 0 = replicate PLACES no_link }) [] from to
 nothing_known from to = record {
-  opened = ap (λ (link : Link). link.is_open) (nothing_at 64 (place from to));
-  lives = ap (λ (link : Link). link.lives) (nothing_at 64 (place from to));
+  opened = ap (λ (link : Link). link.is_open) (nothing_at PLACES (place from to));
+  lives = ap (λ (link : Link). link.lives) (nothing_at PLACES (place from to));
 }

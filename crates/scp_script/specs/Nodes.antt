@@ -2,6 +2,7 @@
 use Rattle.std.specs.Prelude.{ℕ, ◌≤◌, ◌≢◌, suc, zero, not, List, [], ◌∷◌, ◌++◌, map, filter, flat_map, replicate, None, if◌then◌else◌, nat_eq}
 use Rattle.std.specs.Option.{unwrap_or}
 use Rattle.std.specs.List.{last_or}
+use Rattle.scp_types.specs.declared.limits.TheConstants.{NODE_LIMIT}
 use Rattle.scp_types.specs.declared.names.NodeId.{NodeId}
 use Rattle.scp_xdr.specs.Tree.{no_trees}
 use Rattle.scp_quorum.specs.QuorumTree.{QuorumTree}
@@ -11,7 +12,7 @@ use Rattle.scp_script.specs.declared.command.Capacities.{Capacities}
 
 -- a number from 1 to 8
 abbrev pub IsSmall : ℕ → Type 0
-IsSmall number = (1 ≤ number) × (number ≤ 8)
+IsSmall number = (1 ≤ number) × (number ≤ NODE_LIMIT)
 
 -- each number that names or counts nodes is from 1 to 8
 abbrev pub NamesNodes : Command → Type 0

@@ -1,5 +1,6 @@
 -- A script that is being read.
 use Rattle.std.specs.Prelude.{◌≡◌, ℕ, ◌*◌, ◌+◌, ◌-◌, Bool, true, false, Result, Ok, Err, All, List, ◌++◌, IfSome, option_to_list, get_or}
+use Rattle.scp_types.specs.declared.limits.TheConstants.{NODE_LIMIT}
 use Rattle.scp_script.specs.declared.reading.Reading.{Reading}
 use Rattle.scp_script.specs.declared.known.Known.{Known}
 use Rattle.scp_script.specs.declared.links.Links.{Links}
@@ -23,7 +24,7 @@ OnFalseOk (Err e) fact = Unit {0}
 
 -- the index of the link in the table, from 0 on
 abbrev pub place : ℕ → ℕ → ℕ
-place from to = (from - 1) * 8 + (to - 1)
+place from to = (from - 1) * NODE_LIMIT + (to - 1)
 
 -- a link that was never open
 abbrev pub no_link : Link

@@ -2,7 +2,7 @@
 use Rattle.std.specs.Prelude.{◌≡◌, ◌⊎◌, ◌==◌, ℕ, ◌+◌, Bool, true, false, not, ◌&&◌, List, [], ◌∷◌, length, Option, Some, None, is_some, if◌then◌else◌, nat_eq, nat_lt, nat_le, codes, slice_get}
 use Rattle.std.specs.Option.{unwrap_or}
 use Rattle.std.specs.List.{slice_split}
-use Rattle.scp_types.specs.declared.limits.TheConstants.{LIFE_LIMIT}
+use Rattle.scp_types.specs.declared.limits.TheConstants.{LIFE_LIMIT, NODE_LIMIT}
 use Rattle.scp_quorum.specs.QuorumTree.{QuorumTree}
 use Rattle.scp_quorum.specs.Sane.{IsSane}
 use Rattle.scp_script.specs.declared.command.Command.{Command}
@@ -140,8 +140,8 @@ IsSetFault None found = found ≡ Some ASet
 -- what was expected if a word isn't of this kind, by how many nodes there are and by the word before it
 abbrev pub kind_fault : Kind → ℕ → List ℕ → List ℕ → Option Expected
 kind_fault kinds.Capacity count before word = if_not (is_some (capacity_in word)) ACapacity
-kind_fault kinds.Count count before word = if_not (is_most 8 (node_in word)) ACount
-kind_fault kinds.Threshold count before word = if_not (is_most (unwrap_or (node_in before) 8) (node_in word)) (AThreshold (unwrap_or (node_in before) 8))
+kind_fault kinds.Count count before word = if_not (is_most NODE_LIMIT (node_in word)) ACount
+kind_fault kinds.Threshold count before word = if_not (is_most (unwrap_or (node_in before) NODE_LIMIT) (node_in word)) (AThreshold (unwrap_or (node_in before) NODE_LIMIT))
 kind_fault kinds.Node count before word = if_not (is_most count (node_in word)) (ANode count)
 kind_fault kinds.Another count before word = if_not (is_most count (node_in word) && not (same before word)) (AnotherNode count)
 kind_fault kinds.Slot count before word = if_not (is_some (number_in word)) ASlot

@@ -5,6 +5,8 @@ ghost use Rattle.scp_script.specs.Script.{is_link};
 ghost use Rattle.scp_script.specs.Nodes.{IsSmall};
 ghost use Rattle.scp_script.specs.Reading.{at, place, no_link, KnowsLinks};
 
+use scp_types::NODE_LIMIT;
+
 /// What is known of a link.
 #[derive(Clone, Copy, Debug)]
 pub struct Link {
@@ -12,9 +14,12 @@ pub struct Link {
     pub lives: u32,
 }
 
+/// The number of links that are told apart: a list for each node that a script can have, of as many.
+pub const PLACES: usize = NODE_LIMIT * NODE_LIMIT;
+
 /// What is known of each link: first of the links from node 1, then of those from node 2, and so on.
 #[derive(Clone, Copy, Debug)]
-pub struct Links([Link; 64]);
+pub struct Links([Link; PLACES]);
 
 /// The index of the link in the table.
 fn place(from: u8, to: u8) -> usize
@@ -22,7 +27,7 @@ fn place(from: u8, to: u8) -> usize
     requires to { IsSmall to }
     ensures { result ≡ place from to }
 {
-    usize::from(from - 1) * 8 + usize::from(to - 1)
+    usize::from(from - 1) * NODE_LIMIT + usize::from(to - 1)
 }
 
 impl Links {
@@ -33,7 +38,7 @@ impl Links {
         Links([Link {
             is_open: false,
             lives: 0,
-        }; 64])
+        }; PLACES])
     }
 
     /// What is known of a link.

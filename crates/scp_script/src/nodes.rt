@@ -1,5 +1,6 @@
 //! The nodes of a script.
 ghost use Rattle.std.specs.Prelude.{◌≡◌, ◌≤◌, [], All, IfOk, IsOkUnless, map, option_to_list};
+ghost use Rattle.scp_types.specs.declared.limits.TheConstants.{NODE_LIMIT};
 ghost use Rattle.scp_quorum.specs.Sane.{IsSane};
 ghost use Rattle.scp_script.specs.Script.{node_count, AreAdmitted, IsNode};
 ghost use Rattle.scp_script.specs.Nodes.{NamesNodes, IsSmall, id_of, numbers, peers_of, of_all, set_given, set_at, capacities_in};
@@ -20,7 +21,7 @@ pub fn id_from(number: u8) -> NodeId
 pub fn count_of_nodes(commands: &[Command]) -> u8
     requires names { All NamesNodes commands.now }
     ensures count { result ≡ node_count commands.now }
-    ensures few { result ≤ 8 }
+    ensures few { result ≤ NODE_LIMIT }
 {
     let mut count = 0;
     for command in commands {
@@ -55,7 +56,7 @@ pub fn capacities_of(commands: &[Command]) -> Capacities
 /// The ids of `count` nodes, ascending.
 #[tactic(auto, using(crate::proofs::Peers::ids_more))]
 fn ids(alloc: Global, count: u8) -> Result<Vec<NodeId>, AllocError>
-    requires { count ≤ 8 }
+    requires { count ≤ NODE_LIMIT }
     ensures { IfOk result (λ ids. ids.items ≡ map id_of (numbers count)) }
 {
     let mut ids = Vec::new(alloc);
@@ -68,7 +69,7 @@ fn ids(alloc: Global, count: u8) -> Result<Vec<NodeId>, AllocError>
 /// The peers of a node among `count` nodes: the ids of the others, ascending. It fails only when out of memory.
 #[tactic(auto, using(crate::proofs::Peers::peers_more))]
 pub fn peers_of_node(alloc: Global, count: u8, node: u8) -> Result<Vec<NodeId>, AllocError>
-    requires { count ≤ 8 }
+    requires { count ≤ NODE_LIMIT }
     ensures { IfOk result (λ peers. peers.items ≡ peers_of count node) }
 {
     let mut peers = Vec::new(alloc);
@@ -82,7 +83,7 @@ pub fn peers_of_node(alloc: Global, count: u8, node: u8) -> Result<Vec<NodeId>, 
 
 /// The quorum set with the threshold `quorum` over all `count` nodes.
 fn of_all(alloc: Global, count: u8, quorum: u8) -> Result<QuorumSet, AllocError>
-    requires { count ≤ 8 }
+    requires { count ≤ NODE_LIMIT }
     ensures { IfOk result (λ set. set ≡ of_all count quorum) }
 {
     Ok(QuorumSet::of_nodes(u32::from(quorum), ids(alloc, count)?))

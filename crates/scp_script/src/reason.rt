@@ -5,7 +5,7 @@ ghost use Rattle.scp_script.specs.Reasons.{verb_in, kinds_in, order_fault, if_no
 
 use crate::words::{bytes_of, capacity, node, number, set_of};
 use scp_device::{BadWord, Expected};
-use scp_types::Fault;
+use scp_types::{Fault, NODE_LIMIT};
 use std::alloc::{AllocError, Global};
 
 /// The first word of a line.
@@ -126,7 +126,7 @@ fn is_node(count: u8, word: &str) -> bool
 fn threshold(before: &str, word: &str) -> Option<Expected>
     ensures { result ≡ kind_fault Kind.Threshold 0 before.now word.now }
 {
-    let most = node(before).unwrap_or(8);
+    let most = node(before).unwrap_or(NODE_LIMIT as u8);
     unless(is_node(most, word), Expected::AThreshold(u32::from(most)))
 }
 
@@ -154,7 +154,7 @@ fn no_such(
 {
     match kind {
         Kind::Capacity => Ok(unless(capacity(word).is_some(), Expected::ACapacity)),
-        Kind::Count => Ok(unless(is_node(8, word), Expected::ACount)),
+        Kind::Count => Ok(unless(is_node(NODE_LIMIT as u8, word), Expected::ACount)),
         Kind::Threshold => Ok(threshold(before, word)),
         Kind::Node => Ok(unless(is_node(count, word), Expected::ANode(u32::from(count)))),
         Kind::Another => Ok(unless(

@@ -3,6 +3,7 @@ use Rattle.std.specs.Prelude.{◌≡◌, ◌⊎◌, ℕ, Bool, false, not, ◌&&
 use Rattle.std.specs.List.{list_any}
 use Rattle.std.specs.Cmp.Lexicographic.{pointwise}
 use Rattle.std.specs.BTreeSet.{BTreeSet}
+use Rattle.scp_types.specs.declared.limits.TheConstants.{WINDOW}
 use Rattle.scp_types.specs.declared.names.NodeId.{NodeId}
 use Rattle.scp_quorum.specs.NodeSet.{is_in}
 use Rattle.scp_quorum.specs.Satisfies.{AreDisjoint}
@@ -38,7 +39,7 @@ may_decide node command = false
 -- The slot is outside a node's window, whatever the nodes do. It is 0, or above 2^32 - 1, or above 16 if the node can't have decided any
 -- slot.
 abbrev pub is_outside : Bool → ℕ → Bool
-is_outside may slot = nat_eq slot 0 || (nat_lt 4294967295 slot || (not may && nat_lt 16 slot))
+is_outside may slot = nat_eq slot 0 || (nat_lt 4294967295 slot || (not may && nat_lt WINDOW slot))
 
 -- The hint on a line that has a command for a slot at this node. The first argument says which nodes may have decided something.
 abbrev pub slot_hints : (ℕ → Bool) → ℕ → ℕ → ℕ → List Hint

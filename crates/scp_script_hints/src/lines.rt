@@ -15,11 +15,8 @@ use crate::hint::Hint;
 use crate::nodes::is_quiet;
 use scp_quorum::QuorumSet;
 use scp_script::{Command, count_of_nodes, id_from};
-use scp_types::{Fault, NodeId};
+use scp_types::{Fault, NodeId, WINDOW};
 use std::alloc::{AllocError, Global};
-
-/// The most slots of a window.
-const WINDOW: u64 = 16;
 
 /// The greatest slot that any window reaches.
 const LAST_SLOT: u64 = 4_294_967_295;

@@ -4,6 +4,7 @@ use Rattle.std.specs.Prelude.{◌==◌, not, nat_eq, nat_lt, ◌&&◌, if◌then
 use Rattle.std.specs.Fmt.{decimal, digits, digits_onto, digit_glyph}
 use Rattle.std.specs.List.{AllByRecursion}
 use Rattle.std.proofs.lemmas.Bool.Decides.{nat_tests}
+use Rattle.scp_types.specs.declared.limits.TheConstants.{WINDOW}
 use Rattle.scp_types.specs.declared.names.Slot.{Slot}
 use Rattle.scp_text.specs.Laws.{HasNo}
 use Rattle.scp_text.specs.Messages.{words_of}
@@ -91,7 +92,7 @@ flat_clear f h [] = tt
 flat_clear f h (n ∷ ns) = all_clear (f n) (flat_map f ns) (h n) (flat_clear f h ns)
 
 asks_clear : (node peer slot : ℕ) → Clear (ask_lines node peer slot)
-asks_clear node peer slot = by (nat_lt 1 slot && nat_eq (slot % 16) 1)
+asks_clear node peer slot = by (nat_lt 1 slot && nat_eq (slot % WINDOW) 1)
   where
     by : (b : Bool) → Clear (if b then codes "settle" ∷ ask_line node peer slot ∷ [] else ask_line node peer slot ∷ [])
     by true = (settle_text, (ask_clear node peer slot, tt))

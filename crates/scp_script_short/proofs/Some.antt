@@ -3,6 +3,7 @@ use Rattle.std.proofs.Common.{◌≡◌, ℕ, suc, Bool, true, false, List, [], 
 use Rattle.std.specs.Prelude.{◌==◌, cond, if◌then◌else◌, codes}
 use Rattle.std.specs.List.{onto_first}
 use Rattle.std.specs.Cmp.Lexicographic.{bytes_decides}
+use Rattle.scp_types.specs.declared.limits.TheConstants.{NODE_LIMIT}
 use Rattle.scp_text.specs.Pieces.{same}
 use Rattle.scp_text.specs.Messages.{words_of}
 use Rattle.scp_script_text.specs.Scripts.{lines_of}
@@ -36,7 +37,7 @@ no_shorthand m n [] h = absurd cc
 no_shorthand m n (v ∷ []) h = absurd cc
 no_shorthand m n (v ∷ w ∷ ws) h = by (same v (codes "nodes")) refl h
   where
-    by : (b : Bool) → same v (codes "nodes") ≡ b → (if b then number_to 8 w else None) ≡ Some n → shorthand_in m (v ∷ w ∷ ws) ≡ Ok None
+    by : (b : Bool) → same v (codes "nodes") ≡ b → (if b then number_to NODE_LIMIT w else None) ≡ Some n → shorthand_in m (v ∷ w ∷ ws) ≡ Ok None
     by true e h =
         let is : v ≡ codes "nodes" = (bytes_decides v (codes "nodes")).0 e in
         subst (λ (x : List ℕ). shorthand_by m x (x ∷ w ∷ ws) ≡ Ok None) (sym is) refl

@@ -1,6 +1,7 @@
 -- The lines that a shorthand says (this project's profile).
 use Rattle.std.specs.Prelude.{ℕ, zero, suc, ◌%◌, not, ◌&&◌, List, [], ◌∷◌, ◌++◌, map, filter, flat_map, if◌then◌else◌, nat_eq, nat_lt, codes}
 use Rattle.std.specs.Fmt.{decimal}
+use Rattle.scp_types.specs.declared.limits.TheConstants.{WINDOW}
 use Rattle.scp_types.specs.declared.names.Slot.{Slot}
 use Rattle.scp_script_short.specs.declared.shorthand.Shorthand.{Shorthand}
 use Rattle.scp_script_short.specs.declared.shorthand.Shorthand.TheVariants.{OpenAll, Rounds, CatchUp}
@@ -41,7 +42,7 @@ rounds nodes slot times = flat_map (λ time. round_of_each nodes slot) (numbers 
 -- the line that asks for a slot; before it comes `settle` if the slot is one more than a multiple of 16, and not 1
 abbrev pub ask_lines : ℕ → ℕ → ℕ → List (List ℕ)
 ask_lines node peer slot =
-    if nat_lt 1 slot && nat_eq (slot % 16) 1 then codes "settle" ∷ ask_line node peer slot ∷ [] else ask_line node peer slot ∷ []
+    if nat_lt 1 slot && nat_eq (slot % WINDOW) 1 then codes "settle" ∷ ask_line node peer slot ∷ [] else ask_line node peer slot ∷ []
 
 -- the lines that ask for the slots from 1 to the last
 abbrev pub asks : ℕ → ℕ → ℕ → List (List ℕ)

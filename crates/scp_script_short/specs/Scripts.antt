@@ -1,6 +1,7 @@
 -- Whole scripts with shorthand: what each line says, and the lines that it stands for (this project's profile).
 use Rattle.std.specs.Prelude.{◌≡◌, ℕ, zero, suc, ◌+◌, ◌*◌, List, [], ◌∷◌, ◌++◌, map, Option, Some, None, Result, Ok, Err, if◌then◌else◌, codes, slice_get, option_map}
 use Rattle.std.specs.List.{join_with_byte}
+use Rattle.scp_types.specs.declared.limits.TheConstants.{NODE_LIMIT}
 use Rattle.scp_text.specs.Pieces.{same}
 use Rattle.scp_text.specs.Messages.{words_of}
 use Rattle.scp_script_text.specs.Scripts.{lines_of}
@@ -19,7 +20,7 @@ use Rattle.scp_script_short.specs.Lines.{lines_of as shorthand_lines}
 abbrev pub nodes_said : List (List ℕ) → Option ℕ
 nodes_said [] = None
 nodes_said (verb ∷ []) = None
-nodes_said (verb ∷ count ∷ words) = if same verb (codes "nodes") then number_to 8 count else None
+nodes_said (verb ∷ count ∷ words) = if same verb (codes "nodes") then number_to NODE_LIMIT count else None
 
 -- what was found, else the next
 abbrev pub or_next : Option ℕ → Option ℕ → Option ℕ

@@ -7,12 +7,12 @@ use crate::placed::{PlacedLines, placed_lines};
 use crate::said::{Said, nodes_of, said_line};
 use crate::shorthand::Shorthand;
 use scp_text::BadLine;
-use scp_types::Fault;
+use scp_types::{Fault, SCRIPT_LIMIT};
 use std::alloc::{AllocError, Global};
 
 /// The most that the shorthands of a script may weigh together. A `rounds` weighs its rounds at all nodes together, a `catchup` its
-/// slots, an `open all` the square of the number of nodes.
-pub const LINE_LIMIT: u64 = 1_048_576;
+/// slots, an `open all` the square of the number of nodes. It is the number of bytes that a script may have.
+pub const LINE_LIMIT: u64 = SCRIPT_LIMIT as u64;
 
 /// A script in which each shorthand is replaced by the lines that it stands for.
 #[derive(Debug, Drop)]

@@ -8,7 +8,7 @@ use crate::reading::{number_to, shorthand_of};
 use crate::shorthand::Shorthand;
 use crate::writing::lines_of;
 use scp_text::{BadWord, WordFault, words};
-use scp_types::Fault;
+use scp_types::{Fault, NODE_LIMIT};
 use scp_wire::Bytes;
 use std::alloc::{AllocError, Global};
 
@@ -63,7 +63,7 @@ fn nodes_said(alloc: Global, words: &[&[u8]]) -> Result<Option<u32>, Fault>
     match words {
         [verb, count, ..] => {
             if *verb == b"nodes".as_slice() {
-                number_to(alloc, 8, *count)
+                number_to(alloc, NODE_LIMIT as u32, *count)
             } else {
                 Ok(None)
             }

@@ -3,7 +3,7 @@ ghost use Rattle.std.specs.Prelude.{◌≡◌, ◌++◌, ◌∷◌, [], IfOk, On
 ghost use Rattle.scp_script_short.specs.Lines.{open_line as open_of, round_line as round_of, ask_line as ask_of, opens_of as opens_of_node, opens as all_opens, round_of_each, rounds as all_rounds, ask_lines, asks as all_asks, lines_of as said_lines};
 
 use crate::shorthand::Shorthand;
-use scp_types::Slot;
+use scp_types::{Slot, WINDOW};
 use scp_wire::Bytes;
 use std::alloc::{AllocError, Global};
 
@@ -120,7 +120,7 @@ fn rounds(alloc: Global, nodes: u32, slot: Slot, times: u32) -> Result<Vec<Bytes
     Ok(lines)
 }
 
-/// Adds the line that asks for a slot, and before it `settle` if sixteen slots were asked for since the last one.
+/// Adds the line that asks for a slot, and before it `settle` if as many slots as a window has were asked for since the last one.
 fn add_ask(
     alloc: Global,
     lines: &mut Vec<Bytes>,
@@ -130,7 +130,7 @@ fn add_ask(
 ) -> Result<(), AllocError>
     ensures { OnOk result (lines.new.items ≡ lines.old.items ++ ask_lines node peer slot) }
 {
-    if slot > 1 && slot % 16 == 1 {
+    if slot > 1 && u64::from(slot) % WINDOW == 1 {
         lines.push(line(alloc, "settle")?)?;
     }
     lines.push(ask_line(alloc, node, peer, slot)?)?;

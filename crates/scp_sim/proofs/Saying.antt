@@ -152,7 +152,7 @@ spaced_three a b d =
 pub node_again : (n : ℕ) → IsSmall n → node_in (decimal n) ≡ Some n
 node_again n h =
     let from_one : 1 ≤ n = h.0 in
-    let to_eight : n ≤ 8 = h.1 in
+    let to_eight : 48 + n ≤ 56 = omega (arith, h.1) in
     let digit : decimal n ≡ (48 + n) ∷ [] = decimal_digit n (omega arith) in
     let low : nat_le 49 (48 + n) ≡ true = grind (arith, nat_tests) in
     let high : nat_le (48 + n) 56 ≡ true = grind (arith, nat_tests) in

@@ -1,6 +1,6 @@
 //! The links between nodes.
 
-use scp_types::Fault;
+use scp_types::{Fault, NODE_LIMIT};
 use std::alloc::Global;
 
 /// A link from one node to another.
@@ -15,7 +15,7 @@ pub struct Link {
     pub is_used: bool,
 }
 
-/// The links between at most eight nodes.
+/// The links between the nodes of a script.
 #[derive(Debug, Drop)]
 pub struct Links(Vec<Link>);
 
@@ -27,16 +27,19 @@ const NONE: Link = Link {
     is_used: false,
 };
 
+/// How many numbers are told apart: those of nodes, and 0.
+const NUMBERS: usize = NODE_LIMIT + 1;
+
 /// The index of the link from one node to another.
 fn place_of(from: u8, to: u8) -> usize {
-    usize::from(from) * 16 + usize::from(to)
+    usize::from(from) * NUMBERS + usize::from(to)
 }
 
 impl Links {
     /// The links, none of which is open.
     pub fn new(alloc: Global) -> Result<Links, Fault> {
-        let mut links = Vec::with_capacity(alloc, 256)?;
-        for _ in 0..256 {
+        let mut links = Vec::with_capacity(alloc, NUMBERS * NUMBERS)?;
+        for _ in 0..NUMBERS * NUMBERS {
             links.push(NONE)?;
         }
         Ok(Links(links))

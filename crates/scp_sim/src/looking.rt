@@ -3,6 +3,7 @@
 use crate::due::Due;
 use crate::world::{SECOND, STALLED, SimFault, World};
 use scp_script::Command;
+use scp_types::WINDOW;
 
 impl<'a> World<'a> {
     /// A node asks another one that applied more slots for the records of the next slots.
@@ -12,7 +13,7 @@ impl<'a> World<'a> {
         if !is_linked || there <= here {
             return Ok(false);
         }
-        let last = there.min(here.saturating_add(16));
+        let last = there.min(here.saturating_add(WINDOW as usize));
         for slot in here..last {
             self.counts.asked = self.counts.asked.saturating_add(1);
             self.act(Command::Ask {

@@ -4,17 +4,18 @@ ghost use Rattle.scp_script.specs.Nodes.{NamesNodes};
 ghost use Rattle.scp_script.specs.Script.{begins};
 
 use scp_script::Command;
+use scp_types::NODE_LIMIT;
 
 /// Whether a node can have this number.
 fn is_small(node: u8) -> bool
-    ensures { result ≡ true → (1 ≤ node) × (node ≤ 8) }
+    ensures { result ≡ true → (1 ≤ node) × (node ≤ NODE_LIMIT) }
 {
-    1 <= node && node <= 8
+    1 <= node && usize::from(node) <= NODE_LIMIT
 }
 
 /// Whether a link can go from the one node to the other.
 fn are_apart(from: u8, to: u8) -> bool
-    ensures { result ≡ true → (1 ≤ from) × (from ≤ 8) × (1 ≤ to) × (to ≤ 8) × (from ≢ to) }
+    ensures { result ≡ true → (1 ≤ from) × (from ≤ NODE_LIMIT) × (1 ≤ to) × (to ≤ NODE_LIMIT) × (from ≢ to) }
 {
     is_small(from) && is_small(to) && from != to
 }

@@ -2,13 +2,10 @@
 
 use scp_core::{Node, Origin};
 use scp_envelope::{Envelope, Pledges, SharedEnvelope};
-use scp_types::{Fault, Slot};
+use scp_types::{Fault, Slot, WINDOW};
 use scp_vote::{Board, StatementKind};
 use scp_wire::{BoxedEnvelope, Bytes, Message, encode};
 use std::alloc::Global;
-
-/// How many decisions are sent once more, and how many slots are open (this project's profile).
-const WINDOW: u64 = 16;
 
 /// Adds the bytes of a message.
 fn add(alloc: Global, out: &mut Vec<Bytes>, message: &Message) -> Result<(), Fault> {

@@ -9,14 +9,12 @@ use scp_line::played_reports;
 use scp_network::Network;
 use scp_script::Command;
 use scp_sim_options::Plan;
+use scp_types::NODE_LIMIT;
 use scp_wire::Bytes;
 use std::alloc::{AllocError, Global};
 
 /// The most points in time at which anything happens.
 const MOST_TIMES: u32 = 10_000_000;
-
-/// The most nodes of a network.
-const MOST_NODES: usize = 8;
 
 /// If nothing was sent on a link, makes the script send an empty message there. So what its sender says doesn't travel when the script
 /// is played.
@@ -46,7 +44,7 @@ fn mute_all(world: &mut World<'_>, count: u8) -> Result<(), SimFault> {
 
 /// The lines that ask for the reports of this many nodes.
 fn ask_all(world: &mut World<'_>, count: u8) -> Result<Vec<Command>, SimFault>
-    requires few { count ≤ 8 }
+    requires few { count ≤ NODE_LIMIT }
     ensures names { IfOk result (λ commands. All NamesNodes commands.items) }
 {
     let mut commands = Vec::new(world.alloc);
@@ -62,13 +60,13 @@ fn reports_of(alloc: Global, network: &Network, commands: &[Command]) -> Result<
     requires names { All NamesNodes commands.now }
 {
     let nodes = network.nodes();
-    let few = &nodes[..nodes.len().min(MOST_NODES)];
+    let few = &nodes[..nodes.len().min(NODE_LIMIT)];
     played_reports(alloc, few, commands)
 }
 
 /// The last lines of the script, and the reports.
 fn finish(world: &mut World<'_>) -> Result<String, SimFault> {
-    let count = world.plan.nodes.min(8);
+    let count = world.plan.nodes.min(NODE_LIMIT as u8);
     mute_all(world, count)?;
     let commands = ask_all(world, count)?;
     Ok(reports_of(world.alloc, &world.network, commands.as_slice())?)

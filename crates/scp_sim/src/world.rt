@@ -1,5 +1,6 @@
 //! Nodes, their links and what is due at a point in time, and the script of all that happened.
 ghost use Rattle.std.specs.Prelude.{◌≤◌, [], All, IfOk, OnOk, string_bytes};
+ghost use Rattle.scp_types.specs.declared.limits.TheConstants.{NODE_LIMIT};
 ghost use Rattle.scp_script.specs.Nodes.{NamesNodes};
 ghost use Rattle.scp_script.specs.Script.{AreAdmitted};
 ghost use Rattle.scp_sim.specs.inside.Follows.{IsRead, Follows};
@@ -137,7 +138,7 @@ impl<'a> Drop for World<'a> {
 fn twin_of(alloc: Global, script: &Script, count: u8, number: u8) -> Result<Node, Fault>
     requires names { All NamesNodes script.now.commands.items }
     requires admitted { AreAdmitted [] script.now.commands.items }
-    requires few { count ≤ 8 }
+    requires few { count ≤ NODE_LIMIT }
 {
     let commands = script.commands.as_slice();
     let capacities = capacities_of(commands);
@@ -171,7 +172,7 @@ fn actor(alloc: Global, number: u8, twin: Option<Node>) -> Actor {
 fn actors_of(alloc: Global, plan: &Plan, script: &Script, count: u8) -> Result<Vec<Actor>, Fault>
     requires names { All NamesNodes script.now.commands.items }
     requires admitted { AreAdmitted [] script.now.commands.items }
-    requires few { count ≤ 8 }
+    requires few { count ≤ NODE_LIMIT }
 {
     let mut actors = Vec::new(alloc);
     for number in 1..=count {

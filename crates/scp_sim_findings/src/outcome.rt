@@ -7,12 +7,13 @@ ghost use Rattle.scp_sim_findings.specs.Outcome.{judged_of, closed_by, is_judged
 use crate::fates::{count_of, write_fates};
 use scp_core::Node;
 use scp_notices::{Notice, Side, text_of_notices};
+use scp_types::NODE_LIMIT;
 use std::alloc::{AllocError, Global};
 
 /// Which nodes are judged, as a mark for each node from 1 on, and how many slots they were to apply.
 #[derive(Clone, Copy, Debug, PartialEq, Eq)]
 pub struct Judging {
-    pub marks: [bool; 8],
+    pub marks: [bool; NODE_LIMIT],
     pub slots: u64,
 }
 
@@ -187,7 +188,7 @@ fn write_stuck(
     marks: &[bool],
     nodes: &[Node],
 ) -> Result<(), AllocError>
-    requires few { number + length marks.now ≤ 9 }
+    requires few { number + length marks.now ≤ NODE_LIMIT + 1 }
     ensures { OnOk result (string_bytes text.new ≡ string_bytes text.old ++ stuck_lines slots number marks.now nodes.now) }
 {
     match (marks.split_first(), nodes.split_first()) {

@@ -1,6 +1,7 @@
 //! How a script is played once more.
 ghost use Rattle.scp_script.specs.Nodes.{NamesNodes};
 ghost use Rattle.std.specs.Prelude.{◌≡◌, ◌≤◌, length, All, IfOk, IsTrue, string_bytes};
+ghost use Rattle.scp_types.specs.declared.limits.TheConstants.{NODE_LIMIT};
 ghost use Rattle.scp_line.specs.scp_report.specs.Node.{reports_of as records_of};
 ghost use Rattle.scp_line.specs.scp_report.specs.Reports.{settled_text};
 ghost use Rattle.scp_sim_findings.specs.Replayed.{IsReplayed, ComesTo};
@@ -31,7 +32,7 @@ impl From<AllocError> for ReplayFault {
 /// The reports of a run.
 fn reports_of(alloc: Global, ran: &Ran) -> Result<String, AllocError>
     requires names { All NamesNodes ran.now.script.commands.items }
-    requires few { length ran.now.network.nodes ≤ 8 }
+    requires few { length ran.now.network.nodes ≤ NODE_LIMIT }
     ensures { IfOk result (λ text. string_bytes text ≡ settled_text (records_of ran.now.network.nodes) ran.now.script.commands.items) }
 {
     let commands = ran.script.commands.as_slice();

@@ -5,6 +5,7 @@ use crate::table::{Entry, Word};
 use crate::words::{crash_of, node_of, number_of, partition_of, percent_of, span_of};
 use clap::ArgMatches;
 use clap::builder::ValueParser;
+use scp_types::NODE_LIMIT;
 use std::alloc::{AllocError, AllocFailed, Global};
 
 /// The command of a simulation.
@@ -204,8 +205,8 @@ fn marks(
     matches: &ArgMatches<'_>,
     option: &'static str,
     count: u8,
-) -> Result<[bool; 8], Unplanned> {
-    let mut marks = [false; 8];
+) -> Result<[bool; NODE_LIMIT], Unplanned> {
+    let mut marks = [false; NODE_LIMIT];
     let Some(words) = matches.get_strs(option) else {
         return Ok(marks);
     };

@@ -1,6 +1,8 @@
 //! What is simulated.
 ghost use Rattle.std.specs.Prelude.{◌≡◌, ◌≢◌, ◌≤◌, ◌-◌, ◌∷◌, ◌↔◌, IsTrue, Some, true, slice_get, slice_index};
 
+use scp_types::NODE_LIMIT;
+
 /// A range with both ends included. If it is of time, the numbers are milliseconds.
 #[derive(Clone, Copy)]
 pub struct Span {
@@ -26,7 +28,7 @@ pub struct Crash {
 /// A partition. Nodes of different sides aren't linked; nodes of side 0 are linked to all.
 #[derive(Clone, Copy)]
 pub struct Partition {
-    pub sides: [u8; 8],
+    pub sides: [u8; NODE_LIMIT],
     pub span: Span,
 }
 
@@ -51,14 +53,14 @@ pub struct Plan {
     pub crashes: Vec<Crash>,
     /// Marks of nodes, node 1 first. Nothing is heard from `silent` nodes. `equivocating` nodes say different things to different nodes.
     /// `flooding` nodes repeat what is old, and send what can't be judged.
-    pub silent: [bool; 8],
-    pub equivocating: [bool; 8],
-    pub flooding: [bool; 8],
+    pub silent: [bool; NODE_LIMIT],
+    pub equivocating: [bool; NODE_LIMIT],
+    pub flooding: [bool; NODE_LIMIT],
     pub propose: Proposers,
 }
 
 /// Whether the node of this number is marked.
-pub fn is_marked(marks: &[bool; 8], node: u8) -> bool
+pub fn is_marked(marks: &[bool; NODE_LIMIT], node: u8) -> bool
     ensures { IsTrue result ↔ (1 ≤ node) × (slice_get marks.now (node - 1) ≡ Some true) }
 {
     match usize::from(node).checked_sub(1) {
@@ -68,7 +70,7 @@ pub fn is_marked(marks: &[bool; 8], node: u8) -> bool
 }
 
 /// Marks the node of this number, if the number is in range.
-pub(crate) fn mark(marks: &mut [bool; 8], node: u8) {
+pub(crate) fn mark(marks: &mut [bool; NODE_LIMIT], node: u8) {
     if let Some(place) = usize::from(node).checked_sub(1) {
         if let Some(mark) = marks.get_mut(place) {
             *mark = true;

@@ -1,6 +1,7 @@
 //! The words that say numbers, times and nodes.
 
 use crate::plan::{Crash, Partition, Span};
+use scp_types::NODE_LIMIT;
 
 /// A number in decimal digits, without a sign.
 pub(crate) fn number_of(word: &str) -> Option<u64> {
@@ -16,7 +17,7 @@ pub(crate) fn number_of(word: &str) -> Option<u64> {
 /// A node: a number from 1 to 8.
 pub(crate) fn node_of(word: &str) -> Option<u8> {
     let number = number_of(word)?;
-    if 1 <= number && number <= 8 {
+    if 1 <= number && number <= NODE_LIMIT as u64 {
         Some(number as u8)
     } else {
         None
@@ -52,7 +53,7 @@ pub(crate) fn crash_of(word: &str) -> Option<Crash> {
 }
 
 /// Puts nodes, as `1,2,3`, on this side. Returns whether the word names nodes, none of which was on a side before.
-fn put_side(sides: &mut [u8; 8], side: u8, word: &str) -> bool {
+fn put_side(sides: &mut [u8; NODE_LIMIT], side: u8, word: &str) -> bool {
     for part in word.split(',') {
         let Some(node) = node_of(part) else {
             return false;
@@ -69,7 +70,7 @@ fn put_side(sides: &mut [u8; 8], side: u8, word: &str) -> bool {
 pub(crate) fn partition_of(word: &str) -> Option<Partition> {
     let (nodes, span) = word.split_once("@")?;
     let span = span_of(span)?;
-    let mut sides = [0; 8];
+    let mut sides = [0; NODE_LIMIT];
     let mut side: u8 = 0;
     for part in nodes.split('|') {
         side = side.saturating_add(1);

@@ -2,6 +2,7 @@
 use Rattle.std.proofs.Common.{◌≡◌, ◌⊎◌, inl, inr, ◌↔◌, ℕ, Bool, true, false, List, [], ◌++◌, ap, sym, ◌∙◌, refl, append_assoc, append-nil}
 use Rattle.std.specs.Prelude.{Option, find, IsTrue}
 use Rattle.std.proofs.lemmas.Bool.{false≢true}
+use Rattle.scp_types.specs.declared.limits.TheConstants.{WINDOW}
 use Rattle.scp_types.specs.declared.names.NodeId.{NodeId}
 use Rattle.scp_nominate.specs.Turns.{AreInTurn}
 use Rattle.scp_ledger.specs.Decisions.{is_at}
@@ -71,7 +72,7 @@ pub stand_told : (names : Names) (lines : Option ScriptLines) (v : NodeView) (me
     → AreInTurn v.config.me v.config.set members
     → one ≡ old ++ stands_line names v
     → two ≡ one ++ of_links (link_text names v) (links_of v)
-    → Adds two three (AreTexts (IsTextAbove names members lines v) 16)
+    → Adds two three (AreTexts (IsTextAbove names members lines v) WINDOW)
     → four ≡ three ++ wants_text names v
     → five ≡ four ++ of_links (held_on names v) (links_of v)
     → six ≡ five ++ queues_text names v

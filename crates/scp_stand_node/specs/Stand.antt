@@ -1,6 +1,7 @@
 -- The status of a node, in lines (this project's profile).
 use Rattle.std.specs.Prelude.{ℕ, ◌≡◌, false, List, Option, ◌++◌, length, codes}
 use Rattle.std.specs.Fmt.{decimal}
+use Rattle.scp_types.specs.declared.limits.TheConstants.{WINDOW}
 use Rattle.scp_types.specs.declared.names.NodeId.{NodeId}
 use Rattle.scp_nominate.specs.Turns.{AreInTurn}
 use Rattle.scp_core.specs.Kv.{NodeView}
@@ -34,7 +35,7 @@ pub record IsStand (names : Names) (lines : Option ScriptLines) (v : NodeView) (
   pub members : List NodeId
   pub these : AreInTurn v.config.me v.config.set members
   pub slots : List ℕ
-  pub of_slots : AreTexts (IsTextAbove names members lines v) 16 slots
+  pub of_slots : AreTexts (IsTextAbove names members lines v) WINDOW slots
   pub is : text ≡
       stands_line names v
       ++ of_links (link_text names v) (links_of v)

@@ -5,15 +5,15 @@ ghost use Rattle.scp_core.specs.History.{peer_at};
 ghost use Rattle.scp_stand_slot.specs.Names.{node_name};
 ghost use Rattle.scp_stand_node.specs.Links.{conn_on};
 
-use scp_core::{Node, PEER_LIMIT};
+use scp_core::Node;
 use scp_stand_slot::Names;
-use scp_types::{ConnId, Fault, NodeId};
+use scp_types::{ConnId, Fault, LINK_LIMIT, NodeId};
 
 /// The number of links.
 pub fn links(node: &Node) -> u8
     ensures { result ≡ links_of node.now }
 {
-    node.peers().len().min(PEER_LIMIT) as u8
+    node.peers().len().min(LINK_LIMIT as usize) as u8
 }
 
 /// The node at the other end of a link. If there is no such link, the node itself.

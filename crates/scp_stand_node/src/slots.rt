@@ -12,12 +12,12 @@ use crate::others::{add_if, links, lowest_of, peer_of};
 use crate::stand::{Lines, Seen};
 use scp_core::{Fate, Node, SharedDecision, Verdict};
 use scp_driver::KvDriver;
-use scp_ledger::{LAST_SLOT, WINDOW};
+use scp_ledger::LAST_SLOT;
 use scp_script::Command;
 use scp_slot::SlotMachine;
 use scp_stand_slot::{Names, Place, is_blank, write_machine, write_nodes, write_slot_words};
 use scp_text::Term;
-use scp_types::{Fault, NodeId, Slot};
+use scp_types::{Fault, NodeId, Slot, WINDOW};
 use scp_wire::Message;
 use std::alloc::Global;
 
@@ -408,7 +408,7 @@ fn write_slots_above(
 /// Adds the lines of each slot of the window.
 pub fn write_slots(out: &mut String, seen: Seen<'_>, members: &[NodeId]) -> Result<(), Fault>
     requires runs { seen.node.now.failed ≡ false }
-    ensures added { OnOk result (Adds (string_bytes out.old) (string_bytes out.new) (AreTexts (IsTextAbove seen.entry.names.now members.now (script_of seen.entry.lines) seen.entry.node.now) 16)) }
+    ensures added { OnOk result (Adds (string_bytes out.old) (string_bytes out.new) (AreTexts (IsTextAbove seen.entry.names.now members.now (script_of seen.entry.lines) seen.entry.node.now) WINDOW)) }
     ensures only_memory { IsOkUnless result Fault.NoMemory }
 {
     write_slots_above(out, seen, members, lowest_of(seen.node), WINDOW)?;

@@ -1,6 +1,7 @@
 //! The names of nodes, and of quorum sets: the text of a script's set, if it is short.
 ghost use Rattle.std.specs.Prelude.{◌≡◌, ◌≤◌, ◌++◌, ◌∷◌, [], List, All, IfOk, IfSome, OnOk, IsOkUnless, map, flat_map, option_map, option_to_list, string_bytes, Some};
 ghost use Rattle.std.specs.List.{find};
+ghost use Rattle.scp_types.specs.declared.limits.TheConstants.{NODE_LIMIT};
 ghost use Rattle.scp_xdr.specs.Kind.{Fits};
 ghost use Rattle.scp_quorum.specs.QuorumKind.{set_kind, set_value};
 ghost use Rattle.scp_quorum.specs.QuorumTree.{QuorumTree};
@@ -91,7 +92,7 @@ impl Names {
         requires names { All NamesNodes commands.now }
         requires admitted { AreAdmitted [] commands.now }
         requires count { count ≡ node_count commands.now }
-        requires few { count ≤ 8 }
+        requires few { count ≤ NODE_LIMIT }
         ensures names { IfOk result (AreNames commands.now) }
         ensures only_memory { IsOkUnless result Fault.NoMemory }
     {
@@ -179,7 +180,7 @@ fn write_name(out: &mut String, text: &str, hash: &Hash) -> Result<(), Fault>
 fn sets_of_nodes(alloc: Global, commands: &[Command], count: u8) -> Result<Vec<QuorumSet>, Fault>
     requires names { All NamesNodes commands.now }
     requires admitted { AreAdmitted [] commands.now }
-    requires few { count ≤ 8 }
+    requires few { count ≤ NODE_LIMIT }
     ensures sets { IfOk result (λ sets. sets.items ≡ map (λ number. set_at number commands.now) (numbers count)) }
     ensures fits { IfOk result (λ sets. All (λ set. Fits set_kind (set_value set)) sets.items) }
     ensures only_memory { IsOkUnless result Fault.NoMemory }

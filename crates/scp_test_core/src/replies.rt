@@ -266,6 +266,31 @@ fn configurations_are_refused(rt: HostRuntime) -> Result<(), Fail> {
     Ok(())
 }
 
+/// Whether `Node::of_many` refuses this many peers.
+fn is_refused_of_many(alloc: Global, count: u8) -> Result<bool, Fault> {
+    let mut peers = Vec::new(alloc);
+    for number in 0..count {
+        peers.push(NodeId([number.saturating_add(2); 32]))?;
+    }
+    match Node::of_many(alloc, config(alloc, 1, peers.as_slice(), ONE)?, KvDriver) {
+        Ok(_) => Ok(false),
+        Err(Fault::BadConfig) => Ok(true),
+        Err(fault) => Err(fault),
+    }
+}
+
+#[test]
+fn a_hundred_peers_are_the_most(rt: HostRuntime) -> Result<(), Fail> {
+    for (count, wanted) in [(7, false), (8, false), (100, false), (101, true)] {
+        assert_eq!(rt;
+            is_refused_of_many(rt.alloc(), count)?,
+            wanted,
+            "{count} peers"
+        );
+    }
+    Ok(())
+}
+
 /// Sends this many requests, each of which goes through every stage.
 fn fill(alloc: Global, node: &mut Node, count: u32) -> Result<(), Fault> {
     for _ in 0..count {

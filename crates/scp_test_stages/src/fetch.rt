@@ -1,7 +1,7 @@
 //! The hashes that are wanted.
 use Ask::*;
 use scp_fetch::*;
-use scp_types::{ConnId, Fault, Hash, NodeId};
+use scp_types::{ConnId, Fault, Hash, LINK_LIMIT, NodeId};
 use std::alloc::Global;
 use std::process::Abort;
 use std::test::*;
@@ -141,11 +141,11 @@ const ONCE: [Ask<'static>; 8] = [
     Want(7, 3, true),
     WasAsked(7, 3, true),
     Want(7, 3, false),
-    Want(7, 4, true),
+    Want(7, LINK_LIMIT - 1, true),
     Opened(3),
     WasAsked(7, 3, false),
     Want(7, 3, true),
-    Want(7, 4, false),
+    Want(7, LINK_LIMIT - 1, false),
 ];
 
 /// An answer ends a want.

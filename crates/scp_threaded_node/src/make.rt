@@ -1,5 +1,6 @@
 //! The channels and workers of a node, before any thread is started.
 ghost use Rattle.std.specs.Prelude.{◌≡◌, ◌≤◌, ◌+◌, [], Some, None, length, IfOk, IsOkUnless};
+ghost use Rattle.scp_types.specs.declared.limits.TheConstants.{PEER_LIMIT};
 ghost use Rattle.scp_quorum.specs.Sane.{IsSane};
 ghost use Rattle.scp_ends.specs.Ends.{AreFresh, fresh};
 ghost use Rattle.scp_ends.specs.Links.{new_link};
@@ -60,7 +61,7 @@ fn link_of(
 
 /// The ends of an inbox for this number of links and the node's own commands.
 fn inbox_of(alloc: Global, links: u8, capacity: usize) -> Result<(Vec<InboxTx>, InboxRx), Fault>
-    requires few { links ≤ 7 }
+    requires few { links ≤ PEER_LIMIT }
     requires room { IsInRange capacity }
     ensures ends { IfOk result (λ r. AreFresh r.1.line r.0.items × (length r.0.items ≡ links + 1) × (r.1 ≡ record { line = r.1.line; producers = links + 1; room = capacity; got = [] })) }
     ensures only_memory { IsOkUnless result Fault.NoMemory }
@@ -120,7 +121,7 @@ fn lanes(
     ends: Vec<InboxTx>,
     keeps: bool,
 ) -> Result<Vec<Lane>, Fault>
-    requires few { (length ends.items ≤ length peers.now) × (length peers.now ≤ 7) }
+    requires few { (length ends.items ≤ length peers.now) × (length peers.now ≤ PEER_LIMIT) }
     requires fresh { AreFresh rx.now.line ends.items }
     requires room { IsInRange capacity }
     ensures count { IfOk result (λ xs. length xs.items ≡ length ends.items) }
@@ -163,7 +164,7 @@ fn make_pend(
     rx: InboxRx,
     tx: ReadyTx,
 ) -> Result<PendWorker, Fault>
-    requires few { length peers.now ≤ 7 }
+    requires few { length peers.now ≤ PEER_LIMIT }
     requires unused { (rx.got ≡ []) × (tx.sent ≡ []) × HavePutNothing outlets.items }
     requires producers { rx.producers ≡ length peers.now + 1 }
     ensures ends { IfOk result (λ w. (w.input ≡ rx) × (w.output ≡ Some tx)) }
@@ -187,7 +188,7 @@ fn make_slot<A: Application + Drop + Copy>(
     rx: ReadyRx,
     tx: DecidedTx,
 ) -> Result<SlotWorker<A>, AllocError>
-    requires few { length peers.now ≤ 7 }
+    requires few { length peers.now ≤ PEER_LIMIT }
     requires unused { (rx.got ≡ []) × (tx.sent ≡ []) × HavePutNothing outlets.items }
     requires one { rx.producers ≡ 1 }
     ensures ends { IfOk result (λ w. (w.input ≡ rx) × (w.output ≡ Some tx)) }
@@ -209,7 +210,7 @@ fn make_last<A: Application + Drop + Copy>(
     said: Vec<Putter>,
     answers: Vec<Putter>,
 ) -> Result<(ReadyTx, SlotWorker<A>, ApplyWorker<A>), Fault>
-    requires few { length peers.now ≤ 7 }
+    requires few { length peers.now ≤ PEER_LIMIT }
     requires room { HaveRoom capacities }
     requires unused { HavePutNothing said.items × HavePutNothing answers.items }
     ensures ready { IfOk result (λ r. (r.0 ≡ fresh r.1.input.line 0) × (r.1.input.producers ≡ 1)) }
@@ -237,7 +238,7 @@ fn make_stages<A: Application + Drop + Copy>(
     rx: InboxRx,
 ) -> Result<(PendWorker, SlotWorker<A>, ApplyWorker<A>), Fault>
     requires unused { HavePutNothing outlets.pend.items × HavePutNothing outlets.slot.items × HavePutNothing outlets.apply.items }
-    requires few { length peers.now ≤ 7 }
+    requires few { length peers.now ≤ PEER_LIMIT }
     requires sane { IsSane set }
     requires room { HaveRoom capacities }
     requires inbox { (rx.got ≡ []) × (rx.producers ≡ length peers.now + 1) × (rx.room ≡ capacities.inbox) }
@@ -275,7 +276,7 @@ fn make_lanes(
     capacities: Capacities,
     keeps: bool,
 ) -> Result<(Vec<Lane>, LocalTx, InboxRx), Fault>
-    requires few { length peers.now ≤ 7 }
+    requires few { length peers.now ≤ PEER_LIMIT }
     requires room { HaveRoom capacities }
     ensures count { IfOk result (λ r. length r.0.items ≡ length peers.now) }
     ensures lanes { IfOk result (λ r. AreLanes me peers.now r.2.line capacities.link r.0.items × AreUnused r.0.items) }
@@ -306,7 +307,7 @@ pub fn make_parts<A: Application + Drop + Copy>(
     keeps: bool,
 ) -> Result<Parts<A>, Fault>
     requires unused { HavePutNothing outlets.pend.items × HavePutNothing outlets.slot.items × HavePutNothing outlets.apply.items }
-    requires few { length peers.now ≤ 7 }
+    requires few { length peers.now ≤ PEER_LIMIT }
     requires sane { IsSane set }
     requires room { HaveRoom capacities }
     ensures count { IfOk result (λ p. length p.lanes.items ≡ length peers.now) }

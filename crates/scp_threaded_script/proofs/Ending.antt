@@ -6,6 +6,7 @@ use Rattle.std.specs.Result.{result_err}
 use Rattle.std.specs.Global.{Vec}
 use Rattle.std.proofs.lemmas.List.{length-append}
 use Rattle.std.proofs.lemmas.Option.{slice_get_within}
+use Rattle.scp_types.specs.declared.limits.TheConstants.{NODE_LIMIT}
 use Rattle.scp_types.specs.declared.fault.Fault.{Fault}
 use Rattle.scp_types.specs.declared.fault.Fault.TheVariants.{NoMemory, Malformed, TooLong, Insane, Full, NotOpen, AlreadyOpen, LivesSpent, BadConfig, Failed, JournalFull, BadScript, Refused, Device}
 use Rattle.scp_types.specs.declared.fault.Stage.{Stage}
@@ -129,7 +130,7 @@ none_ended all = record {
 
 -- nodes of a script that ended, of which this is told
 pub given_up : (commands : List Command) (nodes : List Node) (all : List (Vec Stood)) (refused : Option NodeFault) (e : NodeFault)
-    → AllRunSoFar commands nodes → length nodes ≤ node_count commands → node_count commands ≤ 8 → AllStand commands all → HaveAllEnded nodes all refused → IsToldOf (node_count commands) refused e → IsGivenUp commands e
+    → AllRunSoFar commands nodes → length nodes ≤ node_count commands → node_count commands ≤ NODE_LIMIT → AllStand commands all → HaveAllEnded nodes all refused → IsToldOf (node_count commands) refused e → IsGivenUp commands e
 given_up commands nodes all refused e run few most stand have told = record {
   nodes = nodes;
   run = run;
@@ -141,7 +142,7 @@ given_up commands nodes all refused e run few most stand have told = record {
 }
 
 -- nothing was started, for want of memory
-pub not_started : (commands : List Command) → node_count commands ≤ 8 → IsGivenUp commands (record { fault = NoMemory; node = 0 })
+pub not_started : (commands : List Command) → node_count commands ≤ NODE_LIMIT → IsGivenUp commands (record { fault = NoMemory; node = 0 })
 not_started commands most = record {
   nodes = [];
   run = λ i node at. let k : None ≡ Some node = at in cc;
@@ -171,7 +172,7 @@ if_err (Err e) f h = f e h
 
 -- what is told where all have ended is why nothing is told
 pub all_given_up : {T : Type 0} (commands : List Command) (nodes : List Node) (all : List (Vec Stood)) (refused : Option NodeFault) (r : Result T NodeFault)
-    → AllRunSoFar commands nodes → length nodes ≤ node_count commands → node_count commands ≤ 8 → AllStand commands all → HaveAllEnded nodes all refused → IfErr r (IsToldOf (node_count commands) refused) → IfErr r (IsGivenUp commands)
+    → AllRunSoFar commands nodes → length nodes ≤ node_count commands → node_count commands ≤ NODE_LIMIT → AllStand commands all → HaveAllEnded nodes all refused → IfErr r (IsToldOf (node_count commands) refused) → IfErr r (IsGivenUp commands)
 all_given_up commands nodes all refused r run few most stand have told = if_err r (λ e t. given_up commands nodes all refused e run few most stand have t) told
 
 -- the stage that failed is told before the line that wasn't done

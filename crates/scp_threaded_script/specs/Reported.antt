@@ -2,6 +2,7 @@
 use Rattle.std.specs.Prelude.{◌≡◌, ℕ, ◌+◌, ◌-◌, ◌≤◌, Bool, false, List, [], ◌∷◌, length, Option, None, Some, is_some, slice_get}
 use Rattle.std.specs.List.{AllByRecursion}
 use Rattle.std.specs.Option.{option_or}
+use Rattle.scp_types.specs.declared.limits.TheConstants.{NODE_LIMIT}
 use Rattle.scp_types.specs.declared.fault.Fault.{Fault}
 use Rattle.scp_types.specs.declared.fault.Fault.TheVariants.{NoMemory, Full, NotOpen, Refused}
 use Rattle.scp_types.specs.declared.fault.Stage.TheVariants.{Reader, Pend}
@@ -95,7 +96,7 @@ pub record IsGivenUp (commands : List Command) (e : NodeFault) : Type 0 where
   pub nodes : List Node
   pub run : AllRunSoFar commands nodes
   pub few : length nodes ≤ node_count commands
-  pub most : node_count commands ≤ 8
+  pub most : node_count commands ≤ NODE_LIMIT
   pub ends : List NodeEnd
   pub ended : AreNodeEnds commands nodes ends
   pub told : IsToldOf (node_count commands) (first_refused 1 ends) e

@@ -1,5 +1,6 @@
 //! What the lines of a script do to running nodes.
 ghost use Rattle.std.specs.Prelude.{◌≡◌, ◌≤◌, ◌-◌, ◌∷◌, ◌++◌, [], ℕ, List, OnOk, OnErr, All, IfOk, IfErr, IsOkUnless, length, false};
+ghost use Rattle.scp_types.specs.declared.limits.TheConstants.{NODE_LIMIT};
 ghost use Rattle.scp_wire.specs.declared.link.Inbound.TheVariants as inbound;
 ghost use Rattle.scp_script.specs.declared.command.Command.{Command};
 ghost use Rattle.scp_script.specs.declared.command.Command.TheVariants as script;
@@ -55,7 +56,7 @@ pub fn command_of(command: &Command) -> Result<Option<(u8, LocalCommand)>, Fault
 
 /// Why an act wasn't done on a link to this node. Either its reader is gone, and the node is named; or the link isn't as the lines say.
 fn fault_at(node: u8, fault: Fault) -> NodeFault
-    requires node { IsOneOf 8 node }
+    requires node { IsOneOf NODE_LIMIT node }
     ensures { (count : ℕ) → IsOneOf count node → (act : Act) → (tail : Tail) → IsActFault act tail fault → IsLineFault count result.node result.fault }
 {
     match fault {
@@ -75,7 +76,7 @@ fn act_on_link<R: Wait>(
 ) -> Result<(), NodeFault>
     requires link { AreTwoOf (length nodes.old.items) from to }
     requires lanes { HaveLanes nodes.old.items }
-    requires few { length nodes.old.items ≤ 8 }
+    requires few { length nodes.old.items ≤ NODE_LIMIT }
     ensures acts { OnOk result (ActsOn nodes.old.items from to done nodes.new.items) }
     ensures same { OnErr result (AreUnchanged nodes.old.items nodes.new.items) }
     ensures given_up { IfErr result (λ e. IsLineFault (length nodes.old.items) e.node e.fault) }
@@ -95,7 +96,7 @@ fn tell_node<R: Wait>(
     command: LocalCommand,
 ) -> Result<(), NodeFault>
     requires number { (1 ≤ number) × (number ≤ length nodes.old.items) }
-    requires few { length nodes.old.items ≤ 8 }
+    requires few { length nodes.old.items ≤ NODE_LIMIT }
     ensures told { OnOk result (TellsAt nodes.old.items number (inbound.Local command) nodes.new.items) }
     ensures same { OnErr result (nodes.new.items ≡ nodes.old.items) }
     ensures given_up { IfErr result (λ e. IsLineFault (length nodes.old.items) e.node e.fault) }
@@ -113,7 +114,7 @@ fn tell_node<R: Wait>(
 fn has_courier(nodes: &Vec<Node>, from: u8, to: u8) -> bool
     requires link { AreTwoOf (length nodes.now.items) from to }
     requires lanes { HaveLanes nodes.now.items }
-    requires few { length nodes.now.items ≤ 8 }
+    requires few { length nodes.now.items ≤ NODE_LIMIT }
 {
     is_carried_at(&nodes[usize::from(to - 1)], usize::from(link_of(from, to)))
 }
@@ -130,7 +131,7 @@ fn drive<R: Wait>(
 ) -> Result<(), NodeFault>
     requires link { AreTwoOf (length nodes.old.items) from to }
     requires lanes { HaveLanes nodes.old.items }
-    requires few { length nodes.old.items ≤ 8 }
+    requires few { length nodes.old.items ≤ NODE_LIMIT }
     requires markers { AreRows (length nodes.old.items) markers.old.items }
     ensures acts { OnOk result (ActsOn nodes.old.items from to done nodes.new.items) }
     ensures same { OnErr result (AreUnchanged nodes.old.items nodes.new.items) }
@@ -147,7 +148,7 @@ fn drive<R: Wait>(
 fn tell_line<R: Wait>(rt: &R, nodes: &mut Vec<Node>, command: &Command) -> Result<(), NodeFault>
     requires names { NamesNodes command.now }
     requires there { IsThere (length nodes.old.items) command.now }
-    requires few { length nodes.old.items ≤ 8 }
+    requires few { length nodes.old.items ≤ NODE_LIMIT }
     requires other { IsNoLink command.now }
     ensures runs { (commands done : List Command) → HaveDone commands done nodes.old.items → AllRun commands nodes.new.items }
     ensures done { OnOk result ((commands done : List Command) → HaveDone commands done nodes.old.items → HaveDone commands (done ++ command.now ∷ []) nodes.new.items) }
@@ -170,7 +171,7 @@ fn open<R: Wait>(
 ) -> Result<(), NodeFault>
     requires link { AreTwoOf (length nodes.old.items) from to }
     requires lanes { HaveLanes nodes.old.items }
-    requires few { length nodes.old.items ≤ 8 }
+    requires few { length nodes.old.items ≤ NODE_LIMIT }
     requires markers { AreRows (length nodes.old.items) markers.old.items }
     ensures runs { (commands done : List Command) → HaveDone commands done nodes.old.items → AllRun commands nodes.new.items }
     ensures done { OnOk result ((commands done : List Command) → HaveDone commands done nodes.old.items → HaveDone commands (done ++ script.Open from to ∷ []) nodes.new.items) }
@@ -191,7 +192,7 @@ fn close<R: Wait>(
 ) -> Result<(), NodeFault>
     requires link { AreTwoOf (length nodes.old.items) from to }
     requires lanes { HaveLanes nodes.old.items }
-    requires few { length nodes.old.items ≤ 8 }
+    requires few { length nodes.old.items ≤ NODE_LIMIT }
     requires markers { AreRows (length nodes.old.items) markers.old.items }
     ensures runs { (commands done : List Command) → HaveDone commands done nodes.old.items → AllRun commands nodes.new.items }
     ensures done { OnOk result ((commands done : List Command) → HaveDone commands done nodes.old.items → HaveDone commands (done ++ script.Close from to ∷ []) nodes.new.items) }
@@ -212,7 +213,7 @@ fn send<R: Wait>(
 ) -> Result<(), NodeFault>
     requires link { AreTwoOf (length nodes.old.items) from to }
     requires lanes { HaveLanes nodes.old.items }
-    requires few { length nodes.old.items ≤ 8 }
+    requires few { length nodes.old.items ≤ NODE_LIMIT }
     ensures runs { (commands done : List Command) → HaveDone commands done nodes.old.items → AllRun commands nodes.new.items }
     ensures done { OnOk result ((commands done : List Command) → HaveDone commands done nodes.old.items → HaveDone commands (done ++ script.Send from to bytes.now ∷ []) nodes.new.items) }
     ensures given_up { IfErr result (λ e. IsLineFault (length nodes.old.items) e.node e.fault) }
@@ -232,7 +233,7 @@ fn act_on_line<R: Wait>(
     requires names { NamesNodes command.now }
     requires there { IsThere (length nodes.old.items) command.now }
     requires lanes { HaveLanes nodes.old.items }
-    requires few { length nodes.old.items ≤ 8 }
+    requires few { length nodes.old.items ≤ NODE_LIMIT }
     requires markers { AreRows (length nodes.old.items) markers.old.items }
     ensures runs { (commands done : List Command) → HaveDone commands done nodes.old.items → AllRun commands nodes.new.items }
     ensures done { OnOk result ((commands done : List Command) → HaveDone commands done nodes.old.items → HaveDone commands (done ++ command.now ∷ []) nodes.new.items) }
@@ -316,7 +317,7 @@ pub fn act_all<R: Wait, G: Gate>(
     requires none { gave_up.old.items ≡ [] }
     requires names { All NamesNodes commands.now }
     requires admitted { AreAdmitted [] commands.now }
-    requires few { length nodes.old.items ≤ 8 }
+    requires few { length nodes.old.items ≤ NODE_LIMIT }
     requires markers { AreRows (length nodes.old.items) markers.old.items }
     requires nodes { HaveDone commands.now [] nodes.old.items }
     ensures runs { AllRun commands.now nodes.new.items }

@@ -1,5 +1,6 @@
 //! Which links the script drives, how the lines leave the links, and the marks that lines leave in outboxes.
 ghost use Rattle.std.specs.Prelude.{◌≡◌, ◌≤◌, ◌<◌, length, map, IfOk, IsOkUnless};
+ghost use Rattle.scp_types.specs.declared.limits.TheConstants.{NODE_LIMIT};
 ghost use Rattle.scp_desks.specs.Places.{AreTwoOf};
 ghost use Rattle.scp_desks.specs.Table.{AreRows, desk_of};
 ghost use Rattle.scp_script.specs.Script.{opens, closes, lives, is_open};
@@ -137,7 +138,7 @@ pub fn leave_at<R: Wait>(
 ) -> Result<(), Fault>
     requires rows { AreRows (length markers.old.items) markers.old.items }
     requires two { AreTwoOf (length markers.old.items) from to }
-    requires few { length markers.old.items ≤ 8 }
+    requires few { length markers.old.items ≤ NODE_LIMIT }
     ensures same { AreSameMarkers markers.old.items markers.new.items }
     ensures only { IsOkUnless result Fault.Full }
 {

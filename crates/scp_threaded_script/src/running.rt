@@ -10,6 +10,7 @@ ghost use Rattle.scp_threaded_node.specs.scp_gather.specs.Kv.{NodeReport};
 ghost use Rattle.scp_threaded_node.specs.Seats.{Runs, AreDriven};
 ghost use Rattle.scp_threaded_node.specs.Sources.{AreSources, HaveRoom, taker_from};
 ghost use Rattle.std.specs.Global.{Vec};
+ghost use Rattle.scp_types.specs.declared.limits.TheConstants.{NODE_LIMIT, PEER_LIMIT};
 ghost use Rattle.scp_threaded_script.specs.Lines.{is_driven, driven_to};
 ghost use Rattle.scp_threaded_script.specs.inside.Outlets.{AreSameMarkers, AreTakenFrom, IsKeeping, AreKeeping, IsSeated, AreSeated, all_given};
 ghost use Rattle.scp_threaded_script.specs.inside.Over.{AreOver};
@@ -97,8 +98,8 @@ fn sources_of(
     commands: &[Command],
     to: u8,
 ) -> Result<Vec<Option<Source>>, Fault>
-    requires few { length takers.items ≤ 7 }
-    requires number { (1 ≤ to) × (to ≤ 8) }
+    requires few { length takers.items ≤ PEER_LIMIT }
+    requires number { (1 ≤ to) × (to ≤ NODE_LIMIT) }
     ensures count { IfOk result (λ sources. length sources.items ≡ length takers.items) }
     ensures driven { IfOk result (λ sources. AreSources (driven_to commands.now to) sources.items) }
     ensures taken { IfOk result (λ sources. AreTakenFrom takers.items sources.items) }
@@ -129,7 +130,7 @@ fn start_node<'s, E, R: Threads + Wait + Sync, G: Gate + Sync>(
     requires names { All NamesNodes commands.now }
     requires admitted { AreAdmitted [] commands.now }
     requires room { HaveRoom (capacities_in commands.now) }
-    requires few { count ≤ 8 }
+    requires few { count ≤ NODE_LIMIT }
     requires unused { HavePutNothing outlets.pend.items × HavePutNothing outlets.slot.items × HavePutNothing outlets.apply.items }
     requires takers { (length takers.items + 1 ≡ count) × Each (λ i t. t.gave ≡ []) takers.items }
     requires number { (1 ≤ number) × (number ≤ count) }
@@ -173,7 +174,7 @@ fn start_all<'s, E, R: Threads + Wait + Sync, G: Gate + Sync>(
     requires room { HaveRoom (capacities_in commands.now) }
     requires made { (markers : List (Vec MarkerView)) × AreMade (node_count commands.now) outlets.items markers takers.items }
     requires none { nodes.old.items ≡ [] }
-    ensures few { (length nodes.new.items ≤ node_count commands.now) × (length nodes.new.items ≤ 8) }
+    ensures few { (length nodes.new.items ≤ node_count commands.now) × (length nodes.new.items ≤ NODE_LIMIT) }
     ensures so_far { AllRunSoFar commands.now nodes.new.items }
     ensures done { OnOk result (HaveDone commands.now [] nodes.new.items) }
     ensures keeping { OnOk result (AreKeeping keeps (all_given nodes.new.items)) }
@@ -198,7 +199,7 @@ fn start_all<'s, E, R: Threads + Wait + Sync, G: Gate + Sync>(
 
 /// How the lines leave each link to a node, in the order of its peers.
 fn stood_to(alloc: Global, commands: &[Command], count: u8, to: u8) -> Result<Vec<Stood>, Fault>
-    requires few { count ≤ 8 }
+    requires few { count ≤ NODE_LIMIT }
     requires count { count ≡ node_count commands.now }
     requires number { (1 ≤ to) × (to ≤ count) }
     ensures stood { IfOk result (λ stood. AreStood commands.now to stood.items) }
@@ -218,7 +219,7 @@ fn stood_to(alloc: Global, commands: &[Command], count: u8, to: u8) -> Result<Ve
 
 /// How the lines leave each link to each node.
 fn all_stood(alloc: Global, commands: &[Command], count: u8) -> Result<Vec<Vec<Stood>>, Fault>
-    requires few { count ≤ 8 }
+    requires few { count ≤ NODE_LIMIT }
     requires count { count ≡ node_count commands.now }
     ensures stood { IfOk result (λ stood. AllStand commands.now stood.items) }
     ensures only_memory { IsOkUnless result Fault.NoMemory }
@@ -299,7 +300,7 @@ fn end_nodes<R: Threads + Wait>(
     nodes: Vec<Node>,
     stood: &[Vec<Stood>],
 ) -> Ended
-    requires few { length nodes.items ≤ 8 }
+    requires few { length nodes.items ≤ NODE_LIMIT }
     requires nodes { (commands : List Command) × AllRunSoFar commands nodes.items × AllStand commands stood.now × (length nodes.items ≤ node_count commands) }
     ensures over { (commands : List Command) → HaveDoneSoFar commands commands nodes.items → AllStand commands stood.now → IsWhole result → AreOver commands (all_given nodes.items) result.all.items result.outlets.items result.takers.items }
     ensures ended { HaveAllEnded nodes.items stood.now result.refused }
@@ -338,7 +339,7 @@ fn end_all<R: Threads + Wait>(
     nodes: Vec<Node>,
     stood: &[Vec<Stood>],
 ) -> Result<AllOver, NodeFault>
-    requires few { length nodes.items ≤ 8 }
+    requires few { length nodes.items ≤ NODE_LIMIT }
     requires nodes { (commands : List Command) × AllRunSoFar commands nodes.items × AllStand commands stood.now × (length nodes.items ≤ node_count commands) }
     ensures over { (commands : List Command) → HaveDone commands commands nodes.items → AllStand commands stood.now → IfOk result (λ all. AreOver commands (all_given nodes.items) all.reports.items all.outlets.items all.takers.items) }
     ensures ended { (refused : Option NodeFault) × HaveAllEnded nodes.items stood.now refused × MatchResult result (λ _. refused ≡ None) (IsEndFault refused) }
@@ -427,7 +428,7 @@ fn taken_back<R: Wait>(
     markers: Vec<Vec<Marker>>,
     over: AllOver,
 ) -> Result<(Vec<NodeReport>, Vec<Vec<u64>>), Fault>
-    requires few { count ≤ 8 }
+    requires few { count ≤ NODE_LIMIT }
     requires all { AreAllBack count over.outlets.items markers.items over.takers.items }
     ensures reports { IfOk result (λ told. told.0.items ≡ over.reports.items) }
     ensures losses { IfOk result (λ told. length told.1.items ≡ length over.outlets.items) }

@@ -10,12 +10,9 @@ use scp_ballot_rules::counter_of_pledges;
 use scp_driver::Driver;
 use scp_ledger::Ledger;
 use scp_slot::SlotMachine;
-use scp_types::{Fault, Slot};
+use scp_types::{Fault, Slot, WINDOW};
 use scp_vote::{Board, StatementKind};
 use std::alloc::Global;
-
-/// How many slots are open, from the lowest undecided one on (this project's profile).
-const WINDOW: u64 = 16;
 
 /// A timer that should run: that of a slot's nomination in this round, or of its ballot of this counter.
 #[derive(Clone, Copy, Debug, PartialEq, Eq)]

@@ -1,5 +1,6 @@
 -- What holds while a script is played.
 use Rattle.std.specs.Prelude.{ℕ, ◌≡◌, ◌≤◌, List}
+use Rattle.scp_types.specs.declared.limits.TheConstants.{NODE_LIMIT}
 use Rattle.scp_network.specs.Heard.{Heard}
 use Rattle.scp_network.specs.Network.{NetworkView}
 use Rattle.scp_script.specs.declared.command.Command.{Command}
@@ -10,7 +11,7 @@ use Rattle.scp_trace.specs.Standing.{Moment}
 -- nodes played these lines of a script; `count` is the number of nodes, at most eight
 pub record IsPlaying (count : ℕ) (commands played : List Command) (network : NetworkView) : Type 0 where
   pub count_is : count ≡ node_count commands
-  pub few : count ≤ 8
+  pub few : count ≤ NODE_LIMIT
   pub so_far : HasPlayed commands played network
 
 -- the moment of this network, whose nodes heard this

@@ -4,7 +4,7 @@ use Rattle.std.specs.Prelude.{IsSome, slice_get}
 use Rattle.std.specs.List.{AllByRecursion}
 use Rattle.std.specs.Prelude.{min}
 use Rattle.std.proofs.lemmas.Bool.{cases_eq}
-use Rattle.std.proofs.lemmas.Bool.Decides.{nat_tests}
+use Rattle.std.proofs.Math.Nat.{min-eq_left}
 use Rattle.std.proofs.lemmas.Option.{slice_get_within}
 use Rattle.scp_driver.specs.Driver.{Says}
 use Rattle.scp_pending.specs.Pends.{IsIdle}
@@ -17,6 +17,7 @@ use Rattle.scp_core.specs.Flow.{Flows}
 use Rattle.scp_core.specs.Node.{LinkView, NodeView, Refuses, Step}
 use Rattle.scp_turn.specs.Turn.{Does, links_of, IsStill, IsStillReply, events_of, reader_events, stage_events}
 use Rattle.scp_turn.specs.Laws.{IsAtRest, StillIsAtRest}
+use Rattle.scp_types.specs.declared.limits.TheConstants.{LINK_LIMIT}
 use Rattle.scp_turn.specs.inside.Acting.{IsStage}
 use Rattle.scp_turn.proofs.Going.{all_on, all_apart}
 
@@ -216,8 +217,8 @@ module _ {D : Type 0} where
 
 -- ---- from the applier back to the links
 
-few_links : (n : ℕ) → n ≤ 7 → min n 7 ≡ n
-few_links n few = grind (arith, nat_tests)
+few_links : (n most : ℕ) → n ≤ most → min n most ≡ n
+few_links n most few = min-eq_left few
 
 module _ {D : Type 0} where
   at_rest : (v : NodeView D) (links : ℕ) → length v.links ≡ links → 1 ≤ v.inbox_room → 1 ≤ v.ready_room → 1 ≤ v.decided_room → AllByRecursion (Refused v) (stage_events links) → IsAtRest v
@@ -250,7 +251,7 @@ module _ {D : Type 0} (says : Says D) where
   pub still_is_at_rest : StillIsAtRest says
   still_is_at_rest past a b heard theorem is does turn still run =
       let range = is.fit.in_range in
-      let links : links_of a ≡ length a.config.peers = few_links (length a.config.peers) is.fit.few in
+      let links : links_of a ≡ length a.config.peers = few_links (length a.config.peers) LINK_LIMIT is.fit.few in
       let stages = subst (λ (events : List Event). AllByRecursion IsStage events) (sym turn) (are_stages (links_of a)) in
       let quiet = still_steps says heard a b does stages still run in
       let flows : Flows says (past_of a.config past) a = subst (λ (v : NodeView D). Flows says (past_of a.config past) v) (sym (theorem.now quiet.0)) theorem.flows in

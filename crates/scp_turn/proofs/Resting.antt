@@ -1,6 +1,7 @@
 -- Turns, one after the other, until a node comes to rest.
 use Rattle.std.proofs.Common.{◌≡◌, ◌<◌, ◌+◌, ℕ, suc, Bool, true, false, List, refl, sym, ◌∙◌, subst, arith}
 use Rattle.std.specs.Prelude.{◌↔◌}
+use Rattle.scp_types.specs.declared.limits.TheConstants.{ROUND_LIMIT}
 use Rattle.scp_driver.specs.Driver.{Says}
 use Rattle.scp_core.specs.History.{Exchange}
 use Rattle.scp_core.specs.Node.{NodeView}
@@ -27,10 +28,10 @@ module _ {D : Type 0} (says : Says D) where
       (goes_then says a b c (AreMovingTurns says k) (λ o heard n. IsTurn o heard n × ((moved ≡ false) ↔ IsStill heard)) (AreMovingTurns says (suc k))
       (λ x y done next p q. record { mid = b; first = x; rest = y; split = refl; one = p; two = (next, q.0, moving moved y is q.1) }) g t)
 
-  pub comes_to_rest : (a b c : NodeView D) (k : ℕ) (moved : Bool) → k < 100000 → moved ≡ false → Goes says a b (AreMovingTurns says k) → Turns says moved b c → Goes says a c (Rests says true)
+  pub comes_to_rest : (a b c : NodeView D) (k : ℕ) (moved : Bool) → k < ROUND_LIMIT → moved ≡ false → Goes says a b (AreMovingTurns says k) → Turns says moved b c → Goes says a c (Rests says true)
   comes_to_rest a b c k moved lt is g t =
       goes_then says a b c (AreMovingTurns says k) (λ o heard n. IsTurn o heard n × ((moved ≡ false) ↔ IsStill heard)) (Rests says true)
       (λ x y done next p q. (k, lt, record { mid = b; first = x; rest = y; split = refl; one = p; two = (next, q.0, q.1.0 is) })) g t
 
-  pub goes_on : (a b : NodeView D) (k : ℕ) → k ≡ 100000 → Goes says a b (AreMovingTurns says k) → Goes says a b (Rests says false)
+  pub goes_on : (a b : NodeView D) (k : ℕ) → k ≡ ROUND_LIMIT → Goes says a b (AreMovingTurns says k) → Goes says a b (Rests says false)
   goes_on a b k is g = goes_as says a b (AreMovingTurns says k) (Rests says false) (λ x done p. subst (λ (j : ℕ). AreMovingTurns says j a x b) is p) g

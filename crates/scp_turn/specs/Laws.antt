@@ -2,7 +2,7 @@
 use Rattle.std.specs.Prelude.{ℕ, ◌≡◌, false, List, [], Some, None, slice_get}
 use Rattle.scp_driver.specs.Driver.{Says}
 use Rattle.scp_pending.specs.Pends.{IsIdle}
-use Rattle.scp_core.specs.Config.{IsConfig}
+use Rattle.scp_core.specs.Config.{IsConfigOfMany}
 use Rattle.scp_core.specs.History.{Exchange}
 use Rattle.scp_core.specs.Node.{LinkView, NodeView}
 use Rattle.scp_core.specs.Theorem.{LedgerTheorem}
@@ -24,4 +24,4 @@ module _ {D : Type 0} (says : Says D) where
   -- A turn in which nothing moved and the node didn't fail changed nothing, and the node was at rest. For whatever is blocked waits for what
   -- comes after it, up to the applier, which waits for nothing.
   abbrev pub StillIsAtRest : Type 0
-  StillIsAtRest = (past : List Exchange) (a b : NodeView D) (heard : List Exchange) → LedgerTheorem says past a → IsConfig a.config → Does says a heard b → IsTurn a heard b → IsStill heard → b.failed ≡ false → IsAtRest a × (b ≡ a)
+  StillIsAtRest = (past : List Exchange) (a b : NodeView D) (heard : List Exchange) → LedgerTheorem says past a → IsConfigOfMany a.config → Does says a heard b → IsTurn a heard b → IsStill heard → b.failed ≡ false → IsAtRest a × (b ≡ a)

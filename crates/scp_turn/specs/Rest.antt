@@ -1,5 +1,6 @@
 -- How a node comes to rest.
 use Rattle.std.specs.Prelude.{ℕ, ◌<◌, ◌≡◌, Bool, true, false, zero, suc, List, [], ◌++◌}
+use Rattle.scp_types.specs.declared.limits.TheConstants.{ROUND_LIMIT}
 use Rattle.scp_driver.specs.Driver.{Says}
 use Rattle.scp_core.specs.History.{Exchange}
 use Rattle.scp_core.specs.Node.{NodeView}
@@ -32,5 +33,5 @@ module _ {D : Type 0} (says : Says D) where
 
   -- if the node came to rest: fewer than 100,000 turns that moved something, and then one that moved nothing; else 100,000 that moved something
   abbrev pub Rests : Bool → NodeView D → List Exchange → NodeView D → Type 0
-  Rests true old heard new = (before : ℕ) × (before < 100000) × Then (AreMovingTurns before) (IsStillTurn says) old heard new
-  Rests false old heard new = AreMovingTurns 100000 old heard new
+  Rests true old heard new = (before : ℕ) × (before < ROUND_LIMIT) × Then (AreMovingTurns before) (IsStillTurn says) old heard new
+  Rests false old heard new = AreMovingTurns ROUND_LIMIT old heard new

@@ -1,6 +1,6 @@
 -- What the stages of a node do in a turn.
 use Rattle.std.specs.Prelude.{ℕ, ◌≡◌, zero, suc, min, List, [], ◌∷◌, ◌++◌, map, length}
-use Rattle.scp_types.specs.declared.limits.TheConstants.{PEER_LIMIT}
+use Rattle.scp_types.specs.declared.limits.TheConstants.{LINK_LIMIT}
 use Rattle.std.specs.List.{AllByRecursion}
 use Rattle.scp_driver.specs.Driver.{Says}
 use Rattle.scp_core.specs.declared.event.Event.{Event}
@@ -49,9 +49,9 @@ abbrev pub stage_events : ℕ → List Event
 stage_events links = reader_events links ++ event.PendTake ∷ event.PendPut ∷ event.SlotTake ∷ event.SlotPut ∷ event.ApplyTake ∷ []
 
 module _ {D : Type 0} where
-  -- how many links a node has: one from each of its peers, of which there are at most seven
+  -- how many links a node has: one from each of its peers, of which there are at most a hundred
   abbrev pub links_of : NodeView D → ℕ
-  links_of v = min (length v.config.peers) PEER_LIMIT
+  links_of v = min (length v.config.peers) LINK_LIMIT
 
   -- a node's turn: its stages do one step each, a reader for each link
   abbrev pub IsTurn : NodeView D → List Exchange → NodeView D → Type 0

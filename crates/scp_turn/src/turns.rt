@@ -9,11 +9,9 @@ ghost use Rattle.scp_turn.specs.Rest.{Rests};
 ghost use Rattle.scp_turn.specs.inside.Acting.{Acts, IsStage};
 
 use crate::watch::{NoWatch, Watch};
-use scp_core::{Event, Node, PEER_LIMIT, Reply};
+use scp_core::{Event, Node, Reply};
 use scp_driver::Application;
-
-/// The most turns of one settle.
-const MOST_TURNS: u32 = 100_000;
+use scp_types::{LINK_LIMIT, ROUND_LIMIT};
 
 /// One event at the node of this number; the watch is shown it before and after.
 pub fn step_with<A: Application + Drop + Copy, W: Watch<A>>(
@@ -137,7 +135,7 @@ pub fn turn_with<A: Application + Drop + Copy, W: Watch<A>>(
 ) -> bool
     ensures { Goes A.says node.old node.new (λ a heard b. IsTurn a heard b × Watched A.says (notes W.notes_before W.notes_after) number watch.old a heard b watch.new × ((result ≡ false) ↔ IsStill heard)) }
 {
-    let links = node.peers().len().min(PEER_LIMIT) as u8;
+    let links = node.peers().len().min(LINK_LIMIT as usize) as u8;
     work(node, number, watch, links)
 }
 
@@ -152,7 +150,7 @@ pub fn turn<A: Application + Drop + Copy>(node: &mut Node<A>) -> bool
 pub fn settle<A: Application + Drop + Copy>(node: &mut Node<A>) -> bool
     ensures { Goes A.says node.old node.new (Rests A.says result) }
 {
-    for _ in 0..MOST_TURNS {
+    for _ in 0..ROUND_LIMIT {
         if !turn(node) {
             return true;
         }

@@ -27,7 +27,10 @@ pub use fault::{Fault, Stage};
 pub use laws::{
     ballots_are_ordered_by_counter_then_value, connections_are_ordered_by_sender_receiver_life,
 };
-pub use limits::{CAPACITY_LIMIT, CARRIED_LIMIT, LIFE_LIMIT, NODE_LIMIT, PEER_LIMIT, VALUE_LIMIT};
+pub use limits::{
+    CAPACITY_LIMIT, CARRIED_LIMIT, LIFE_LIMIT, LINK_LIMIT, NETWORK_LIMIT, NODE_LIMIT, PEER_LIMIT,
+    ROUND_LIMIT, SCRIPT_LIMIT, VALUE_LIMIT, WINDOW,
+};
 pub use names::{ConnId, Hash, NodeId, Seq, Slot};
 pub use shared::SharedValue;
 pub use value::Value;

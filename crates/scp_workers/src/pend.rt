@@ -1,5 +1,6 @@
 //! The pending stage, where messages wait for their quorum sets.
 ghost use Rattle.std.specs.Prelude.{◌≡◌, ◌≤◌, [], false, Some, length};
+ghost use Rattle.scp_types.specs.declared.limits.TheConstants.{NODE_LIMIT, PEER_LIMIT};
 ghost use Rattle.scp_workers.specs.Pending.{IsFor};
 ghost use Rattle.scp_workers.specs.Working.{AreUnused};
 
@@ -60,10 +61,10 @@ pub fn pending(
     producers: u8,
     tx: ReadyTx,
 ) -> PendWorker
-    requires few { length peers.items ≤ 7 }
+    requires few { length peers.items ≤ PEER_LIMIT }
     requires unused { (rx.got ≡ []) × (tx.sent ≡ []) }
     requires outlets { AreUnused outlets.items }
-    requires producers { (rx.producers ≡ producers) × (producers ≤ 8) }
+    requires producers { (rx.producers ≡ producers) × (producers ≤ NODE_LIMIT) }
     ensures ends { (result.input ≡ rx) × (result.output ≡ Some tx) }
     ensures outlets { result.outlets ≡ outlets.items }
     ensures stage { IsFor node peers.items local.value result.first }

@@ -34,6 +34,7 @@ pub struct Worker<T: Drop, L: Law<T>, U: Drop, M: Law<U>, S: Stage<T, L, U, M>> 
 
 impl<T: Drop, L: Law<T>, U: Drop, M: Law<U>, S: Stage<T, L, U, M>> Model for Worker<T, L, U, M, S> {
     ghost use Rattle.std.specs.Prelude.{◌≡◌, ◌≤◌, true, false, is_some};
+    ghost use Rattle.scp_types.specs.declared.limits.TheConstants.{NODE_LIMIT};
     ghost use Rattle.std.specs.Coded.{codes};
     ghost use Rattle.scp_xdr.specs.inside.TreeModel.{coded_row};
     ghost use Rattle.scp_quorum.specs.inside.QuorumTree.{coded_level};
@@ -47,7 +48,7 @@ impl<T: Drop, L: Law<T>, U: Drop, M: Law<U>, S: Stage<T, L, U, M>> Model for Wor
 
     ghost view = { λ w. record { input = w.rx; output = w.tx; outlets = w.outlets.items; first = w.first.value; failed = w.failed; cut_off = is_some w.gone } };
 
-    ghost invariant = { λ w. (w.rx.producers ≡ w.producers) × (w.producers ≤ 8) × (w.failed ≡ false → HasGiven S.runs S.rests w.first.value (values w.rx.got) (sent_by w.tx) w.outlets.items w.stage) × AreStops w.stops w.rx.got × (is_some w.gone ≡ true → w.failed ≡ true) × FitsAlone L.fits w.rx };
+    ghost invariant = { λ w. (w.rx.producers ≡ w.producers) × (w.producers ≤ NODE_LIMIT) × (w.failed ≡ false → HasGiven S.runs S.rests w.first.value (values w.rx.got) (sent_by w.tx) w.outlets.items w.stage) × AreStops w.stops w.rx.got × (is_some w.gone ≡ true → w.failed ≡ true) × FitsAlone L.fits w.rx };
 }
 
 /// What a worker ends with: its receiving end, what is left of its sending end, its ends of the outboxes, its stage, and how it ended. It
@@ -134,7 +135,7 @@ impl<T: Drop, L: Law<T>, U: Drop, M: Law<U>, S: Stage<T, L, U, M>> Worker<T, L, 
     ) -> Worker<T, L, U, M, S>
         requires unused { (rx.got ≡ []) × (sent_by tx ≡ []) }
         requires outlets { AreUnused outlets.items }
-        requires producers { (rx.producers ≡ producers) × (producers ≤ 8) }
+        requires producers { (rx.producers ≡ producers) × (producers ≤ NODE_LIMIT) }
         requires fits { FitsAlone L.fits rx }
         requires fresh { S.runs stage [] [] [] stage × S.rests stage }
         ensures { result ≡ record { input = rx; output = tx; outlets = outlets.items; first = stage; failed = false; cut_off = false } }

@@ -1,6 +1,7 @@
 -- What an applier keeps; nothing here need be believed.
 use Rattle.std.specs.Prelude.{ℕ, ◌+◌, ◌<◌, ◌≤◌, ◌≡◌, ◌≢◌, Bool, false, List, [], ◌∷◌, ◌++◌, All, length, remove, slice_index_or}
 use Rattle.std.specs.List.Sorted.{IsPermutation}
+use Rattle.scp_types.specs.declared.limits.TheConstants.{WINDOW}
 use Rattle.scp_ledger.specs.declared.journal.Decision.{Decision}
 use Rattle.scp_ledger.specs.Decisions.{OnePerSlot}
 use Rattle.scp_apply.specs.declared.slots.Slots.{Slots}
@@ -16,7 +17,7 @@ next_in s = s.before + 1 + length s.applied.items
 pub record IsApplied (s : Slots) : Type 0 where
   pub in_order : AreInOrder (s.before + 1) s.applied.items
   pub above : All (λ d. next_in s ≤ d.slot.0) s.buffer.items
-  pub near : All (λ d. d.slot.0 < next_in s + 16) s.buffer.items
+  pub near : All (λ d. d.slot.0 < next_in s + WINDOW) s.buffer.items
   pub one : OnePerSlot s.buffer.items
 
 -- and the next slot isn't buffered

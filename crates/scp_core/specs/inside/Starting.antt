@@ -1,5 +1,5 @@
 -- What a new node is, and what one event of a run does; nothing here need be believed.
-use Rattle.std.specs.Prelude.{◌≡◌, false, List, [], ◌∷◌, ◌++◌, None, length, replicate}
+use Rattle.std.specs.Prelude.{◌≡◌, true, false, List, [], ◌∷◌, ◌++◌, None, length, replicate}
 use Rattle.scp_driver.specs.Driver.{Says}
 use Rattle.scp_pending.specs.Pends.{Pends}
 use Rattle.scp_pending.specs.Rules.{fresh}
@@ -8,7 +8,7 @@ use Rattle.scp_ledger.specs.Runs.{nothing_taken}
 use Rattle.scp_outboxes.specs.Handing.{empty_outbox}
 use Rattle.scp_core.specs.declared.event.Event.{Event}
 use Rattle.scp_core.specs.declared.event.Reply.{Reply}
-use Rattle.scp_core.specs.Config.{IsFit}
+use Rattle.scp_core.specs.Config.{are_apart}
 use Rattle.scp_core.specs.History.{Exchange}
 use Rattle.scp_core.specs.Theorem.{LedgerTheorem}
 use Rattle.scp_apply.specs.Applies.{Applies}
@@ -17,7 +17,7 @@ use Rattle.scp_core.specs.Node.{NodeView, new_link}
 
 module _ {D : Type 0} (says : Says D) where
   pub record IsNew (v : NodeView D) : Type 0 where
-    pub fit : IsFit v.config.me v.config.peers v.config.capacities
+    pub apart : are_apart v.config.peers ≡ true
     pub runs : v.failed ≡ false
     pub fault : v.fault ≡ None
     pub links : v.links ≡ replicate (length v.config.peers) (new_link v.config.capacities.link)

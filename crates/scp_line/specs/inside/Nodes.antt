@@ -1,6 +1,7 @@
 -- What the nodes of a script hear from line to line, while the script is played.
 -- No public clause reaches these definitions: nothing here need be believed.
 use Rattle.std.specs.Prelude.{◌≤◌, ◌≡◌, ◌⊎◌, List, length}
+use Rattle.scp_types.specs.declared.limits.TheConstants.{NODE_LIMIT}
 use Rattle.scp_types.specs.declared.fault.Fault.TheVariants.{Failed as failing, Full as full}
 use Rattle.scp_network.specs.Heard.{Heard}
 use Rattle.scp_network.specs.Network.{NetworkView}
@@ -14,7 +15,7 @@ use Rattle.scp_line.specs.Nodes.{IsWant}
 pub record IsPlayed (commands : List Command) (network : NetworkView) : Type 0 where
   pub heard : List Heard
   pub played : ArePlayed commands commands heard network.nodes
-  pub few : length network.nodes ≤ 8
+  pub few : length network.nodes ≤ NODE_LIMIT
 
 -- why not all lines were done
 abbrev pub IsStopped : List Command → PlayFault → Type 0

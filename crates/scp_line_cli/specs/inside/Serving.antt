@@ -1,5 +1,6 @@
 -- What the program writes for a command line, and why a script isn't played.
 use Rattle.std.specs.Prelude.{ℕ, ◌≡◌, ◌≤◌, ◌<◌, ◌⊎◌, List, length, Option, IfSome}
+use Rattle.scp_types.specs.declared.limits.TheConstants.{SCRIPT_LIMIT}
 use Rattle.scp_types.specs.declared.fault.Fault.TheVariants.{TooLong, Full, Failed, BadScript, Refused}
 use Rattle.scp_types.specs.declared.fault.Stage.{Stage}
 use Rattle.scp_device.specs.Device.{Gains, Fails}
@@ -21,17 +22,17 @@ IsTold written failures old fault new = IsWritten written failures old (fault_li
 pub record IsUnplayed (left : Option (List ℕ)) (fault : PlayFault) : Type 0 where
   pub cause : IsPlayFault fault.fault
   pub named : IsNamed fault.node fault.fault
-  pub too_long : fault.fault ≡ TooLong → IfSome left (λ all. 1048576 < length all)
-  pub line : (line : ℕ) → fault.fault ≡ BadScript line → IfSome left (λ all. (length all ≤ 1048576) × IsBadLine all line)
-  pub stops : fault.fault ≡ Failed → IfSome left (λ all. (length all ≤ 1048576) × IsScript all × Stops (commands_in all) fault.node)
-  pub full : fault.fault ≡ Full → IfSome left (λ all. (length all ≤ 1048576) × IsScript all × Overflows (commands_in all))
+  pub too_long : fault.fault ≡ TooLong → IfSome left (λ all. SCRIPT_LIMIT < length all)
+  pub line : (line : ℕ) → fault.fault ≡ BadScript line → IfSome left (λ all. (length all ≤ SCRIPT_LIMIT) × IsBadLine all line)
+  pub stops : fault.fault ≡ Failed → IfSome left (λ all. (length all ≤ SCRIPT_LIMIT) × IsScript all × Stops (commands_in all) fault.node)
+  pub full : fault.fault ≡ Full → IfSome left (λ all. (length all ≤ SCRIPT_LIMIT) × IsScript all × Overflows (commands_in all))
 
 -- why a script wasn't played in threads; `left` is all that was left to read of it
 pub record IsUnplayedInThreads (left : Option (List ℕ)) (fault : PlayFault) : Type 0 where
   pub cause : IsThreadsFault fault.fault
   pub named : IsNamed fault.node fault.fault
-  pub too_long : fault.fault ≡ TooLong → IfSome left (λ all. 1048576 < length all)
-  pub line : (line : ℕ) → fault.fault ≡ BadScript line → IfSome left (λ all. (length all ≤ 1048576) × IsBadLine all line)
-  pub stage : (stage : Stage) → fault.fault ≡ Refused stage → IfSome left (λ all. (length all ≤ 1048576) × IsScript all)
-  pub full : fault.fault ≡ Full → IfSome left (λ all. (length all ≤ 1048576) × IsScript all)
+  pub too_long : fault.fault ≡ TooLong → IfSome left (λ all. SCRIPT_LIMIT < length all)
+  pub line : (line : ℕ) → fault.fault ≡ BadScript line → IfSome left (λ all. (length all ≤ SCRIPT_LIMIT) × IsBadLine all line)
+  pub stage : (stage : Stage) → fault.fault ≡ Refused stage → IfSome left (λ all. (length all ≤ SCRIPT_LIMIT) × IsScript all)
+  pub full : fault.fault ≡ Full → IfSome left (λ all. (length all ≤ SCRIPT_LIMIT) × IsScript all)
   pub given_up : IsOfTheNodes fault.fault → IfSome left (λ all. AreGivenUp all fault.node fault.fault)

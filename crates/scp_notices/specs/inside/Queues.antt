@@ -1,6 +1,7 @@
 -- What was reported at each node, and how much of it belongs to the lines so far.
 -- No public clause reaches these definitions: nothing here need be believed.
 use Rattle.std.specs.Prelude.{ℕ, ◌+◌, ◌≡◌, List, [], ◌∷◌, Option, Some, None, drop, length, slice_get, slice_set}
+use Rattle.scp_types.specs.declared.limits.TheConstants.{NODE_LIMIT}
 use Rattle.scp_ledger.specs.declared.took.CommandFate.{CommandFate}
 use Rattle.scp_script.specs.declared.command.Command.{Command}
 use Rattle.scp_notices.specs.declared.commands.Told.{Told}
@@ -24,7 +25,7 @@ TakesAt old place fate new = (queue next : Queue) × (slice_get old place ≡ So
 abbrev pub left_behind : List Told → List Command → ℕ → List CommandFate
 left_behind told before number = drop (count_at number before) (fates_at number told)
 
--- the same for each of the eight queues
+-- the same for each queue: there is one for each node that a script can have
 pub record AreQueues (told : List Told) (before : List Command) (queues : List Queue) : Type 0 where
-  pub count : length queues ≡ 8
+  pub count : length queues ≡ NODE_LIMIT
   pub each : (place : ℕ) → (queue : Queue) → slice_get queues place ≡ Some queue → left_in queue ≡ left_behind told before (place + 1)

@@ -1,6 +1,7 @@
 -- What the steps of a worker keep.
 -- No public clause reaches these definitions: nothing here need be believed.
 use Rattle.std.specs.Prelude.{◌≡◌, ℕ, ◌<◌, Bool, false, List, [], ◌∷◌, ◌++◌, slice_index_or}
+use Rattle.scp_types.specs.declared.limits.TheConstants.{NODE_LIMIT}
 use Rattle.scp_desk.specs.Ends.{PutterView}
 use Rattle.scp_ledger.specs.declared.took.Outgoing.{Outgoing}
 use Rattle.scp_ends.specs.declared.item.Item.{Item}
@@ -13,7 +14,7 @@ HearsToTheEnd input cut_off = cut_off ≡ false → HeardAll input
 
 -- the flags say which producers have ended
 abbrev pub AreStops : {T : Type 0} → List Bool → List (Item T) → Type 0
-AreStops flags got = (p : ℕ) → p < 8 → slice_index_or flags p false ≡ stopped p got
+AreStops flags got = (p : ℕ) → p < NODE_LIMIT → slice_index_or flags p false ≡ stopped p got
 
 -- the stage gave and handed out all that it gives of these
 pub record HasGiven {T U S : Type 0} (runs : S → List T → List U → List Outgoing → S → Type 0) (rests : S → Type 0) (first : S) (took : List T) (gave : List U) (outlets : List PutterView) (now : S) : Type 0 where

@@ -1,6 +1,7 @@
 use Rattle.std.proofs.Common.{◌≡◌, ◌∙◌, false, ap, string_bytes}
 use Rattle.std.specs.Prelude.{map}
 use Rattle.std.proofs.lemmas.Result.{on_ok_weaker}
+use Rattle.scp_types.specs.declared.limits.TheConstants.{WINDOW}
 use Rattle.scp_live_lines.specs.Names.{name_at}
 use Rattle.scp_live.specs.Live.{LiveView}
 use Rattle.scp_again.specs.Again.{decided_again, slots_again}
@@ -21,9 +22,9 @@ returns-clause-said c =
     let d = string_bytes c.say_slots.new.text in
     let names : map string_bytes c.as_slice.result.now ≡ v.names = ap (λ ns. map string_bytes ns) c.as_slice.ensures.value ∙ ap (λ (u : LiveView). u.names) c.self.view_is in
     on_ok_weaker c.say_slots.result
-    (λ (q : SaysAgain name (slots_again l link 16) b d). again_as name (name_at v.names link) a d ds l v.node.ledger link
+    (λ (q : SaysAgain name (slots_again l link WINDOW) b d). again_as name (name_at v.names link) a d ds l v.node.ledger link
     (c.name_of-name.ensures ∙ ap (λ ns. name_at ns link) names)
     (c.decisions.ensures ∙ ap (λ (u : LiveView). u.node.ledger.decisions) c.self.view_is)
     (c.ledger.ensures (ap (λ (u : LiveView). u.node.failed) c.self.view_is ∙ run) ∙ ap (λ (u : LiveView). u.node.ledger) c.self.view_is)
-    (says_on name a b d (decided_again ds) (slots_again l link 16) c.in_ok-say_decided.ensures.said q))
+    (says_on name a b d (decided_again ds) (slots_again l link WINDOW) c.in_ok-say_decided.ensures.said q))
     c.say_slots.ensures.said

@@ -2,7 +2,7 @@ use Rattle.std.specs.Prelude.{[]}
 use Rattle.scp_core.specs.Theorem.{LedgerTheorem}
 use Rattle.scp_core.specs.inside.Starting.{IsNew}
 use Rattle.scp_core.proofs.Starting.{new_holds, if_ok}
-use Rattle.scp_core.proofs.node.Node.new.Goals as goal
+use Rattle.scp_core.proofs.node.Node.made.Goals as goal
 
 pub returns-clause-theorem : goal.returns-clause-theorem
 returns-clause-theorem g c = if_ok (IsNew g.A.Driver.says) (LedgerTheorem g.A.Driver.says []) c.with_set.result (λ v n. new_holds g.A.Driver.says c.what_holds_of_a_ledger_holds_with_one_thing_more.ensures.journals v n) c.with_set.ensures.new
