@@ -24,7 +24,7 @@ use Rattle.scp_ballot_rules.proofs.Options.{some_of, some_and, at_some, some_sam
 use Rattle.scp_ballot.specs.declared.machine.Machine.{Machine}
 use Rattle.scp_ballot.specs.declared.balloted.Balloted.{Balloted}
 use Rattle.scp_ballot.specs.declared.balloted.Certified.{Certified}
-use Rattle.scp_ballot_steps.specs.Told.{ballots_on}
+use Rattle.scp_ballot_rules.specs.Told.{ballots_on}
 use Rattle.scp_ballot.specs.inside.Machine.{own_at, IsOwnStatement, IsAtRest, IsSettled}
 use Rattle.scp_ballot.specs.inside.Gives.{IsWorth, Emits, IsCertifiedAt, Decides, Gives}
 use Rattle.scp_ballot.specs.inside.Balloter.{ballots_of}

@@ -17,7 +17,7 @@ use Rattle.scp_ballot_rules.proofs.Ahead.{none_block_nothing}
 use Rattle.scp_ballot_rules.proofs.Options.{some_of, some_and, at_some, some_same, none_some}
 use Rattle.scp_ballot_rules.specs.RaiseCounter.{IsLeastFree}
 use Rattle.scp_ballot.specs.inside.Ahead.{IsAhead, PicksAhead, or_floor, Lessens, IsLeastOfStatement}
-use Rattle.scp_ballot_steps.proofs.Gathering.{Entries}
+use Rattle.scp_ballot_rules.proofs.Gathering.{Entries}
 
 decided : (b : Bool) → (b ≡ true) ⊎ (b ≡ false)
 decided true = inl refl

@@ -17,7 +17,7 @@ use Rattle.scp_ballot_rules.proofs.Rising.{rises_itself}
 use Rattle.scp_ballot_rules.proofs.Options.{some_of, some_and, at_some, some_same, none_some, some_or_none}
 use Rattle.scp_ballot.specs.declared.machine.Machine.{Machine}
 use Rattle.scp_ballot.specs.declared.balloted.Balloted.{Balloted}
-use Rattle.scp_ballot_steps.specs.Told.{ballots_on}
+use Rattle.scp_ballot_rules.specs.Told.{ballots_on}
 use Rattle.scp_ballot.specs.inside.Machine.{own_at, IsAtRest}
 use Rattle.scp_ballot.specs.inside.Gives.{Gives}
 use Rattle.scp_ballot.specs.inside.Inputs.{Times, CannotRaise, TakesComposite, TakesTimer, TakesStatement}

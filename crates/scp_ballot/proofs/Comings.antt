@@ -12,7 +12,7 @@ use Rattle.scp_ballot_rules.specs.declared.state.State.{State}
 use Rattle.scp_ballot_rules.specs.Own.{own_of}
 use Rattle.scp_ballot_rules.specs.Steps.{Step, Answers, renewed, Settles}
 use Rattle.scp_ballot.specs.declared.machine.Machine.{Machine}
-use Rattle.scp_ballot_steps.specs.Told.{ballots_on}
+use Rattle.scp_ballot_rules.specs.Told.{ballots_on}
 use Rattle.scp_ballot.specs.inside.Machine.{Renews}
 use Rattle.scp_ballot.specs.inside.Exactly.{ComesTo, GoesTo}
 

@@ -19,7 +19,7 @@ use Rattle.scp_ballot_rules.proofs.Options.{some_and, some_same, none_some, some
 use Rattle.scp_ballot_rules.proofs.Moving.{raised_moves}
 use Rattle.scp_ballot.specs.declared.machine.Machine.{Machine}
 use Rattle.scp_ballot.specs.declared.balloted.Balloted.{Balloted}
-use Rattle.scp_ballot_steps.specs.Told.{ballots_on}
+use Rattle.scp_ballot_rules.specs.Told.{ballots_on}
 use Rattle.scp_ballot.specs.inside.Machine.{own_at, IsAtRest}
 use Rattle.scp_ballot.specs.inside.Gives.{Gives}
 use Rattle.scp_ballot.specs.inside.Inputs.{Times, TakesComposite, TakesTimer, TakesStatement}

@@ -15,7 +15,7 @@ use Rattle.scp_ballot_rules.specs.Own.{StandsFor}
 use Rattle.scp_ballot_rules.specs.Ready.{IsReady}
 use Rattle.scp_ballot_rules.specs.inside.Rules.{IsChange}
 use Rattle.scp_ballot.specs.declared.machine.Machine.{Machine}
-use Rattle.scp_ballot_steps.specs.Told.{ballots_on}
+use Rattle.scp_ballot_rules.specs.Told.{ballots_on}
 use Rattle.scp_ballot.specs.inside.Machine.{own_at, KeepsRest, IsAtRest}
 use Rattle.scp_ballot.specs.inside.Inputs.{HearsOne, Times}
 

@@ -31,7 +31,7 @@ use Rattle.scp_ballot_rules.proofs.Options.{some_of, some_and, some_same, none_s
 use Rattle.scp_ballot_rules.proofs.Order.{values_decided, at_most_counter}
 use Rattle.scp_ballot.specs.declared.machine.Machine.{Machine}
 use Rattle.scp_ballot.specs.declared.balloted.Balloted.{Balloted}
-use Rattle.scp_ballot_steps.specs.Told.{ballots_on}
+use Rattle.scp_ballot_rules.specs.Told.{ballots_on}
 use Rattle.scp_ballot.specs.inside.Machine.{own_at, IsAtRest}
 use Rattle.scp_ballot.specs.inside.Exactly.{ComesTo}
 use Rattle.scp_ballot.specs.inside.Gives.{Gives}

@@ -26,7 +26,7 @@ use Rattle.scp_ballot_rules.proofs.FollowingMore.{step_keeps, raised_link}
 use Rattle.scp_ballot_rules.proofs.Moving.{ahead_same, step_composite, moves_itself, moves_more}
 use Rattle.scp_ballot_rules.proofs.Certifying.{confirmed_stays}
 use Rattle.scp_ballot.specs.declared.machine.Machine.{Machine}
-use Rattle.scp_ballot_steps.specs.Told.{ballots_on}
+use Rattle.scp_ballot_rules.specs.Told.{ballots_on}
 use Rattle.scp_ballot.proofs.Others.{keeps_others}
 use Rattle.scp_ballot.specs.inside.Machine.{own_at, Renews, IsConfirmedAt, IsAtRest, IsSettled}
 

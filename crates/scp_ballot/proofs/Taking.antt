@@ -12,7 +12,7 @@ use Rattle.scp_vote.specs.Licence.{Licensed, IsExternalize}
 use Rattle.scp_ballot_rules.proofs.Rising.{rises_itself}
 use Rattle.scp_ballot.specs.declared.machine.Machine.{Machine}
 use Rattle.scp_ballot.specs.declared.balloted.Balloted.{Balloted}
-use Rattle.scp_ballot_steps.specs.Told.{ballots_on}
+use Rattle.scp_ballot_rules.specs.Told.{ballots_on}
 use Rattle.scp_ballot.specs.inside.Machine.{own_at, IsAtRest}
 use Rattle.scp_ballot.specs.inside.Inputs.{IsHeardBy, HearsOne, TakesStatement}
 use Rattle.scp_ballot.specs.inside.Balloter.{ballots_of}

@@ -21,7 +21,7 @@ use Rattle.scp_vote.specs.Board.{Seen, Certificate, KeepsOwn, kind_of_pledges, c
 use Rattle.scp_vote.specs.Licence.{Licensed, IsExternalize}
 use Rattle.scp_ballot_rules.specs.declared.state.State.{State}
 use Rattle.scp_ballot_rules.specs.Owed.{OwesNothing, AreAheadOf}
-use Rattle.scp_ballot_steps.specs.Told.{ballots_on}
+use Rattle.scp_ballot_rules.specs.Told.{ballots_on}
 use Rattle.scp_ballot.specs.View.{BalloterView}
 use Rattle.scp_ballot.specs.declared.balloted.Balloted.{Balloted}
 use Rattle.scp_ballot.specs.declared.balloted.Certified.{Certified}

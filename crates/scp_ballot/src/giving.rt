@@ -12,7 +12,7 @@ ghost use Rattle.scp_ballot_rules.specs.Owed.{OwesNothing};
 ghost use Rattle.scp_quorum.specs.NodeSet.{is_in};
 ghost use Rattle.scp_vote.specs.Board.{Certificate, Confirmed};
 ghost use Rattle.scp_vote.specs.declared.claim.Claim.TheVariants.{Committed};
-ghost use Rattle.scp_ballot_steps.specs.Told.{ballots_on};
+ghost use Rattle.scp_ballot_rules.specs.Told.{ballots_on};
 ghost use Rattle.scp_ballot.specs.inside.Machine.{IsAtRest, IsSettled, IsOwnStatement, IsConfirmedAt};
 
 use crate::balloted::{Balloted, Certified};

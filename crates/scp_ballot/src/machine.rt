@@ -6,12 +6,11 @@ ghost use Rattle.scp_vote.specs.Board.{IsNewBoard};
 ghost use Rattle.scp_ballot_rules.specs.inside.Rules.{IsChange};
 ghost use Rattle.scp_ballot_rules.specs.Ready.{IsReady};
 ghost use Rattle.scp_ballot_rules.specs.Owed.{OwesNothing};
-ghost use Rattle.scp_ballot_steps.specs.Told.{ballots_on};
+ghost use Rattle.scp_ballot_rules.specs.Told.{ballots_on};
 ghost use Rattle.scp_ballot.specs.inside.Exactly.{ComesTo};
 
 use crate::next::next;
-use scp_ballot_rules::{State, pledges_of};
-use scp_ballot_steps::{local_of, me_of, new_board, put_ballot};
+use scp_ballot_rules::{State, local_of, me_of, new_board, pledges_of, put_ballot};
 use scp_envelope::{Envelope, SharedEnvelope, SharedStatement, Signature, Statement};
 use scp_quorum::SaneSet;
 use scp_types::{Fault, Hash, NodeId, Slot};

@@ -6,7 +6,7 @@ ghost use Rattle.scp_ballot_rules.specs.inside.Rules.{IsStep, CatchesUp, RaisesM
 ghost use Rattle.scp_ballot_rules.specs.Rules.{AcceptsPrepared, ConfirmsPrepared, AcceptsCommit, AcceptsMore, Grows, ConfirmsCommit};
 ghost use Rattle.scp_ballot_rules.specs.inside.Rests.{Rests, RestsInPrepare, RestsInConfirm, RaisesNone};
 ghost use Rattle.scp_ballot_rules.specs.Rests.{CommitsNone, CommitsNoHigher, ConfirmsNone, AcceptsNoMore, ConfirmsNoMore};
-ghost use Rattle.scp_ballot_steps.specs.Told.{ballots_on};
+ghost use Rattle.scp_ballot_rules.specs.Told.{ballots_on};
 ghost use Rattle.scp_ballot_rules.specs.AcceptPrepared.{AcceptPrepared};
 ghost use Rattle.scp_ballot_rules.specs.ConfirmPrepared.{ConfirmPrepared};
 ghost use Rattle.scp_ballot_rules.specs.AcceptCommit.{AcceptCommit};
@@ -16,12 +16,12 @@ ghost use Rattle.scp_ballot_rules.specs.Steps.{Answers, OrElse, Step};
 
 use crate::raise::{catch_up, catch_up_more};
 use scp_ballot_rules::{Phase, State};
-use scp_ballot_steps::accept_commit::{accept_commit, accept_higher};
-use scp_ballot_steps::accept_prepared::{accept_more, accept_prepared};
-use scp_ballot_steps::boundaries::boundaries;
-use scp_ballot_steps::candidates::candidates;
-use scp_ballot_steps::confirm_commit::confirm_commit;
-use scp_ballot_steps::confirm_prepared::confirm_prepared;
+use scp_ballot_rules::accept_commit::{accept_commit, accept_higher};
+use scp_ballot_rules::accept_prepared::{accept_more, accept_prepared};
+use scp_ballot_rules::boundaries::boundaries;
+use scp_ballot_rules::candidates::candidates;
+use scp_ballot_rules::confirm_commit::confirm_commit;
+use scp_ballot_rules::confirm_prepared::confirm_prepared;
 use scp_types::Fault;
 use scp_vote::Board;
 use std::alloc::Global;

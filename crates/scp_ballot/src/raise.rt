@@ -9,15 +9,14 @@ ghost use Rattle.scp_ballot_rules.specs.inside.Rules.{Raises, CatchesUp, RaisesM
 ghost use Rattle.scp_ballot_rules.specs.Rules.{raised_value};
 ghost use Rattle.scp_ballot_rules.specs.inside.Rests.{RaisesNone};
 ghost use Rattle.scp_ballot_rules.specs.Owed.{AreAheadOf, counter_in};
-ghost use Rattle.scp_ballot_steps.specs.Told.{ballots_on};
+ghost use Rattle.scp_ballot_rules.specs.Told.{ballots_on};
 ghost use Rattle.scp_ballot.specs.inside.Ahead.{IsAhead, PicksAhead, or_floor, Lessens, IsLeastOfStatement};
 ghost use Rattle.scp_ballot_rules.specs.Greatest.{Where};
 ghost use Rattle.scp_ballot_rules.specs.RaiseCounter.{IsLeastFree, Raised, RaiseTo, RaiseCounter};
 ghost use Rattle.scp_ballot_rules.specs.Steps.{Answers};
 ghost use Rattle.scp_ballot_rules.specs.declared.state.Phase.TheVariants.{Prepare, Confirm};
 
-use scp_ballot_rules::{State, copy_some, counter, counter_of_pledges};
-use scp_ballot_steps::{local_set, me_of};
+use scp_ballot_rules::{State, copy_some, counter, counter_of_pledges, local_set, me_of};
 use scp_quorum::blocked;
 use scp_types::{Ballot, Fault, NodeId, SharedValue};
 use scp_vote::{Board, Entry, StatementKind};

@@ -18,3 +18,13 @@ pub mod Licensing
 pub mod Resting
 pub mod Lawful
 pub mod Saying
+pub mod Adding
+pub mod Gathering
+pub mod Best
+pub mod Firsts
+pub mod Primes
+pub mod Stepping
+pub mod Exactly
+pub mod Ranges
+pub mod ExactRanges
+pub mod ExactConfirms

@@ -16,3 +16,5 @@ pub mod Inputs
 pub mod Laws
 pub mod Values
 pub mod inside
+pub mod Told
+pub mod Finding

@@ -1,3 +1,5 @@
 pub mod Rests
 pub mod Rises
 pub mod Rules
+pub mod Finding
+pub mod Told

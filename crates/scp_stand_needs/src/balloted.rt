@@ -14,8 +14,8 @@ ghost use Rattle.scp_stand_needs.specs.Needs.{IsPreparing, IsTopBallot, IsBallot
 ghost use Rattle.scp_stand_needs.specs.inside.Found.{IsGreatest, Raises, IsNeedOf, IsNext, IsNeedFor};
 
 use crate::steps::{Need, Step, add, need_unless_reached, next};
-use scp_ballot_steps::boundaries::boundaries;
-use scp_ballot_steps::candidates::candidates;
+use scp_ballot_rules::boundaries::boundaries;
+use scp_ballot_rules::candidates::candidates;
 use scp_envelope::{Confirm, Pledges};
 use scp_types::{Ballot, Fault, NodeId, SharedValue, Value};
 use scp_vote::{Board, Claim, StatementKind};

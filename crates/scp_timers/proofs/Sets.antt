@@ -15,7 +15,7 @@ use Rattle.scp_vote.specs.declared.statements.Entry.{Entry}
 use Rattle.scp_vote.specs.Board.{Seen, HasQuorumOf, AllHave}
 use Rattle.scp_vote.proofs.Chain.{same_at, at_itself}
 use Rattle.scp_ballot_rules.specs.Owed.{counter_in}
-use Rattle.scp_ballot_steps.proofs.Gathering.{Entries}
+use Rattle.scp_ballot_rules.proofs.Gathering.{Entries}
 use Rattle.scp_timers.specs.Timers.{IsFrom, HasQuorumFrom}
 use Rattle.scp_timers.specs.inside.Sets.{set_from, counted_from, AreSetsFrom}
 

@@ -5,7 +5,7 @@ use Rattle.scp_vote.specs.Board.{Seen}
 use Rattle.scp_ballot_rules.specs.declared.state.State.{State}
 use Rattle.scp_ballot_rules.specs.Steps.{renewed, Settles}
 use Rattle.scp_ballot.specs.declared.machine.Machine.{Machine}
-use Rattle.scp_ballot_steps.specs.Told.{ballots_on}
+use Rattle.scp_ballot_rules.specs.Told.{ballots_on}
 
 -- The rules lead here from the state that an input made, with its own statement renewed; or from the state as it was.
 abbrev pub ComesTo : Machine → Option State → Seen → State → Bool → Type 0

@@ -18,7 +18,7 @@ use Rattle.scp_ballot_rules.specs.Owed.{OwesNothing}
 use Rattle.scp_ballot.specs.declared.machine.Machine.{Machine}
 use Rattle.scp_ballot.specs.declared.balloted.Balloted.{Balloted}
 use Rattle.scp_ballot.specs.declared.balloted.Certified.{Certified}
-use Rattle.scp_ballot_steps.specs.Told.{ballots_on}
+use Rattle.scp_ballot_rules.specs.Told.{ballots_on}
 use Rattle.scp_ballot.specs.inside.Machine.{IsSettled, IsOwnStatement}
 use Rattle.scp_ballot.specs.inside.Exactly.{ComesTo}
 

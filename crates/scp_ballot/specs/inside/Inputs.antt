@@ -14,7 +14,7 @@ use Rattle.scp_ballot_rules.specs.Steps.{Answers}
 use Rattle.scp_ballot_rules.specs.Inputs.{Time}
 use Rattle.scp_ballot.specs.declared.machine.Machine.{Machine}
 use Rattle.scp_ballot.specs.declared.balloted.Balloted.{Balloted}
-use Rattle.scp_ballot_steps.specs.Told.{ballots_on}
+use Rattle.scp_ballot_rules.specs.Told.{ballots_on}
 use Rattle.scp_ballot.specs.inside.Machine.{KeepsRest}
 use Rattle.scp_ballot.specs.inside.Gives.{Gives}
 

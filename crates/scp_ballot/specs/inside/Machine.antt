@@ -16,7 +16,7 @@ use Rattle.scp_ballot_rules.specs.declared.state.Phase.TheVariants.{Externalize}
 use Rattle.scp_ballot_rules.specs.Own.{own_of, or_zero, counter_of, StandsFor, IsBlank}
 use Rattle.scp_ballot_rules.specs.Ready.{IsReady}
 use Rattle.scp_ballot_rules.specs.inside.Rises.{Rises, Moves, or_state}
-use Rattle.scp_ballot_steps.specs.Told.{ballots_on}
+use Rattle.scp_ballot_rules.specs.Told.{ballots_on}
 use Rattle.scp_ballot.specs.declared.machine.Machine.{Machine}
 
 -- the own statement on the board

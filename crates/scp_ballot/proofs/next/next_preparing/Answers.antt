@@ -7,7 +7,7 @@ use Rattle.scp_ballot_rules.specs.AcceptCommit.{AcceptCommit}
 use Rattle.scp_ballot_rules.specs.RaiseCounter.{RaiseCounter}
 use Rattle.scp_ballot_rules.specs.Steps.{OrElse}
 use Rattle.scp_ballot_rules.proofs.Answering.{answers_first, answers_then, step_preparing}
-use Rattle.scp_ballot_steps.specs.Told.{ballots_on}
+use Rattle.scp_ballot_rules.specs.Told.{ballots_on}
 use Rattle.scp_ballot.proofs.next.next_preparing.Goals as goal
 
 pub returns-in-Some-clause-step : goal.returns-in-Some-clause-step

@@ -2,7 +2,7 @@ use Rattle.std.proofs.Common.{Some, ◌≡◌, ℕ, subst}
 use Rattle.scp_ballot_rules.specs.Own.{counter_of}
 use Rattle.scp_ballot_rules.specs.Owed.{AreAheadOf}
 use Rattle.scp_ballot_rules.proofs.Answering.{raise_answers}
-use Rattle.scp_ballot_steps.specs.Told.{ballots_on}
+use Rattle.scp_ballot_rules.specs.Told.{ballots_on}
 use Rattle.scp_ballot.proofs.raise.catch_up_more.Goals as goal
 
 pub returns-in-Some-2-clause-exact : goal.returns-in-Some-2-clause-exact

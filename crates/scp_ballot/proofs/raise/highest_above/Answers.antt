@@ -9,11 +9,11 @@ use Rattle.scp_envelope.specs.declared.statement.Pledges.{Pledges}
 use Rattle.scp_envelope.specs.declared.statement.Envelope.{Envelope}
 use Rattle.scp_vote.specs.declared.statements.Entry.{Entry}
 use Rattle.scp_ballot_rules.specs.Owed.{counter_in}
-use Rattle.scp_ballot_steps.specs.Told.{ballots_on}
+use Rattle.scp_ballot_rules.specs.Told.{ballots_on}
 use Rattle.scp_ballot.specs.inside.Ahead.{IsAhead, or_floor}
-use Rattle.scp_ballot_steps.proofs.Gathering.{Entries}
+use Rattle.scp_ballot_rules.proofs.Gathering.{Entries}
 use Rattle.scp_ballot.proofs.Aheads.{HoldsVisited, ahead_tested, visited_more, ahead_less, floor_up, floor_rises, for_if, not_over}
-use Rattle.scp_ballot_steps.proofs.Stepping.{refuted}
+use Rattle.scp_ballot_rules.proofs.Stepping.{refuted}
 use Rattle.scp_ballot.proofs.raise.highest_above.Goals as goal
 
 pub greater-top-requires-clause-top : goal.greater-top-requires-clause-top

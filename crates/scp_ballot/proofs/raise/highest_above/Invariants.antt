@@ -1,6 +1,6 @@
 use Rattle.std.proofs.Common.{◌≡◌, ◌<◌, None}
 use Rattle.std.specs.Option.{ForSome}
-use Rattle.scp_ballot_steps.specs.Told.{ballots_on}
+use Rattle.scp_ballot_rules.specs.Told.{ballots_on}
 use Rattle.scp_ballot.specs.inside.Ahead.{IsAhead, or_floor}
 use Rattle.scp_ballot.proofs.Aheads.{HoldsVisited}
 use Rattle.scp_ballot.proofs.raise.highest_above.Given as goal

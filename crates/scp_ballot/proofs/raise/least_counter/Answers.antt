@@ -9,9 +9,9 @@ use Rattle.scp_envelope.specs.declared.statement.Pledges.{Pledges}
 use Rattle.scp_envelope.specs.declared.statement.Envelope.{Envelope}
 use Rattle.scp_vote.specs.declared.statements.Entry.{Entry}
 use Rattle.scp_ballot_rules.specs.Owed.{counter_in}
-use Rattle.scp_ballot_steps.specs.Told.{ballots_on}
+use Rattle.scp_ballot_rules.specs.Told.{ballots_on}
 use Rattle.scp_ballot.specs.inside.Ahead.{Lessens, IsLeastOfStatement}
-use Rattle.scp_ballot_steps.proofs.Gathering.{Entries}
+use Rattle.scp_ballot_rules.proofs.Gathering.{Entries}
 use Rattle.scp_ballot.proofs.Aheads.{HoldsVisited, visited_more, lessens_free, lessens_down, least_of_more, least_of_here}
 use Rattle.scp_ballot.proofs.raise.least_counter.Goals as goal
 

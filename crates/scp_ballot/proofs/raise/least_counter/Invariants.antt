@@ -1,6 +1,6 @@
 use Rattle.std.proofs.Common.{◌<◌}
 use Rattle.scp_ballot_rules.specs.Owed.{AreAheadOf}
-use Rattle.scp_ballot_steps.specs.Told.{ballots_on}
+use Rattle.scp_ballot_rules.specs.Told.{ballots_on}
 use Rattle.scp_ballot.specs.inside.Ahead.{IsLeastOfStatement}
 use Rattle.scp_ballot.proofs.Aheads.{HoldsVisited}
 use Rattle.scp_ballot.proofs.raise.least_counter.Given as goal

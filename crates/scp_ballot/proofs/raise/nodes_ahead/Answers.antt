@@ -8,11 +8,11 @@ use Rattle.scp_quorum.specs.NodeSet.{node_cmp, is_in}
 use Rattle.scp_envelope.specs.declared.statement.Pledges.{Pledges}
 use Rattle.scp_vote.specs.declared.statements.Entry.{Entry}
 use Rattle.scp_ballot_rules.specs.Owed.{counter_in}
-use Rattle.scp_ballot_steps.specs.Told.{ballots_on}
+use Rattle.scp_ballot_rules.specs.Told.{ballots_on}
 use Rattle.scp_ballot.specs.inside.Ahead.{IsAhead}
-use Rattle.scp_ballot_steps.proofs.Gathering.{Entries}
+use Rattle.scp_ballot_rules.proofs.Gathering.{Entries}
 use Rattle.scp_ballot.proofs.Aheads.{IsPickingAhead, ahead_tested, picking_by, picking_takes}
-use Rattle.scp_ballot_steps.proofs.Stepping.{refuted}
+use Rattle.scp_ballot_rules.proofs.Stepping.{refuted}
 use Rattle.scp_ballot.proofs.raise.nodes_ahead.Goals as goal
 
 pub loop-node-preserved-in_ok-insert : goal.loop-node-preserved-in_ok-insert

@@ -1,6 +1,6 @@
 use Rattle.std.proofs.Common.{ℕ, Option, IfSome, rules}
 use Rattle.scp_types.specs.declared.names.NodeId.{NodeId}
-use Rattle.scp_ballot_steps.specs.Told.{ballots_on}
+use Rattle.scp_ballot_rules.specs.Told.{ballots_on}
 use Rattle.scp_ballot.specs.inside.Ahead.{IsAhead}
 use Rattle.scp_ballot.proofs.Aheads.{least_free}
 use Rattle.scp_ballot.proofs.raise.raised_counter.Goals as goal

@@ -1,5 +1,5 @@
 use Rattle.scp_quorum.specs.Quorum.{set_of}
-use Rattle.scp_ballot_steps.specs.Told.{ballots_on}
+use Rattle.scp_ballot_rules.specs.Told.{ballots_on}
 use Rattle.scp_timers.proofs.Sets.{IsPuttingSets}
 use Rattle.scp_timers.proofs.quorum.sets_from.Given as goal
 

@@ -1,7 +1,7 @@
 use Rattle.std.proofs.Common.{◌≡◌, inl, inr}
 use Rattle.scp_ballot_rules.specs.declared.state.Phase.TheVariants.{Prepare}
 use Rattle.scp_ballot_rules.specs.inside.Rules.{Composes, IsChange}
-use Rattle.scp_ballot_steps.specs.Told.{ballots_on}
+use Rattle.scp_ballot_rules.specs.Told.{ballots_on}
 use Rattle.scp_ballot.proofs.Heard.{all_change}
 use Rattle.scp_ballot.proofs.machine.Machine.candidate.Goals as goal
 

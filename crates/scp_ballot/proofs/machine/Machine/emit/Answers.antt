@@ -2,7 +2,7 @@ use Rattle.std.proofs.Common.{refl, ◌∙◌, ap}
 use Rattle.scp_envelope.specs.declared.statement.Envelope.{Envelope}
 use Rattle.scp_ballot.specs.inside.Gives.{IsWorth}
 use Rattle.scp_ballot.proofs.Emitting.{emits_none, emits_some}
-use Rattle.scp_ballot_steps.proofs.Stepping.{refuted}
+use Rattle.scp_ballot_rules.proofs.Stepping.{refuted}
 use Rattle.scp_ballot.proofs.machine.Machine.emit.Goals as goal
 
 pub returns-then-not-is_worth-clause-emits : goal.returns-then-not-is_worth-clause-emits

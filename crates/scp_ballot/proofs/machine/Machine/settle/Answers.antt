@@ -1,7 +1,7 @@
 use Rattle.std.proofs.Common.{◌≡◌, ◌<◌, sym, subst, rules}
 use Rattle.scp_ballot_rules.proofs.Owing.{owes_nothing}
 use Rattle.scp_ballot.specs.declared.machine.Machine.{Machine}
-use Rattle.scp_ballot_steps.specs.Told.{ballots_on}
+use Rattle.scp_ballot_rules.specs.Told.{ballots_on}
 use Rattle.scp_ballot.specs.inside.Machine.{IsSettled}
 use Rattle.scp_ballot.specs.inside.Exactly.{GoesTo}
 use Rattle.scp_ballot.proofs.Settling.{settled_start, settled_first, settled_renews}

@@ -1,5 +1,5 @@
 use Rattle.scp_ballot_rules.specs.inside.Rules.{IsChange}
-use Rattle.scp_ballot_steps.specs.Told.{ballots_on}
+use Rattle.scp_ballot_rules.specs.Told.{ballots_on}
 use Rattle.scp_ballot.specs.inside.Inputs.{Times}
 use Rattle.scp_ballot.proofs.Heard.{all_change, times_change}
 use Rattle.scp_ballot.proofs.machine.Machine.timer.Goals as goal

@@ -1,0 +1,11 @@
+use Rattle.std.proofs.Common.{◌≡◌}
+use Rattle.scp_types.specs.declared.ballot.Ballot.{Ballot}
+use Rattle.scp_ballot_rules.proofs.Adding.{adds_then}
+use Rattle.scp_ballot_rules.proofs.candidates.add_externalize.Goals as goal
+
+pub returns-clause-added : goal.returns-clause-added
+returns-clause-added c =
+    let p = c.args.externalize.now in
+    let A : Ballot → Type 0 = λ x. p.commit ≡ x in
+    let B : Ballot → Type 0 = λ x. (let b : Ballot = record { counter = p.n_high; value = p.commit.value } in b) ≡ x in
+    adds_then A B c.args.list.now.items c.add.new.list.items c.add-2.new.list.items c.in_ok-add.ensures.added c.in_ok-add-2.ensures.added

@@ -1,6 +1,0 @@
-use Rattle.scp_ballot_steps.specs.Told.{ballots_on}
-use Rattle.scp_ballot_steps.proofs.Exactly.{no_low_rests}
-use Rattle.scp_ballot_steps.proofs.accept_prepared.accept_more.Goals as goal
-
-pub returns-in-None-clause-exact : goal.returns-in-None-clause-exact
-returns-in-None-clause-exact c = no_low_rests (ballots_on c.args.board.now) c.args.state.now c.in-None.is
