@@ -9,10 +9,10 @@ use Rattle.scp_wire.specs.Boxed.{Boxed}
 use Rattle.scp_wire.specs.declared.message.Message.{Message}
 use Rattle.scp_wire.specs.Message.{message_value, SpellsMessage}
 use Rattle.scp_outbox.specs.Outbox.{OutboxView}
-use Rattle.scp_outboxes.specs.Handing.{empty_outbox}
-use Rattle.scp_outboxes.specs.Laws.{EmptyOwes, PutsKeepOwes, GivesKeepOwes}
-use Rattle.scp_outboxes.specs.Sent.{statement_of, IsStep, AreNewer}
-use Rattle.scp_outboxes.specs.Waiting.{Owes}
+use Rattle.scp_outbox.specs.Handing.{empty_outbox}
+use Rattle.scp_outbox.specs.Sending.{EmptyOwes, PutsKeepOwes, GivesKeepOwes}
+use Rattle.scp_outbox.specs.Sent.{statement_of, IsStep, AreNewer}
+use Rattle.scp_outbox.specs.Waiting.{Owes}
 use Rattle.scp_ledger.specs.declared.journal.Decision.{Decision}
 use Rattle.scp_ledger.specs.Seen.{LedgerView}
 use Rattle.scp_grounds.specs.Grounds.{Who}

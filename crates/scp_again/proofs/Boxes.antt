@@ -16,10 +16,10 @@ use Rattle.scp_outbox.specs.Outbox.{OutboxView, are_alike, AreOneEach, keep_last
 use Rattle.scp_outbox.specs.declared.mark.Mark.{Mark}
 use Rattle.scp_outbox.specs.declared.mark.Out.{Out}
 use Rattle.scp_outbox.specs.declared.mark.Out.TheVariants as out
-use Rattle.scp_outboxes.specs.Handing.{PutsAll}
-use Rattle.scp_outboxes.specs.Sent.{statement_of, IsStep}
-use Rattle.scp_outboxes.specs.Waiting.{Owes}
-use Rattle.scp_outboxes.specs.Laws.{PutsKeepOwes}
+use Rattle.scp_outbox.specs.Handing.{PutsAll}
+use Rattle.scp_outbox.specs.Sent.{statement_of, IsStep}
+use Rattle.scp_outbox.specs.Waiting.{Owes}
+use Rattle.scp_outbox.specs.Sending.{PutsKeepOwes}
 use Rattle.scp_grounds.proofs.Basics.{which, none_some, some_same}
 use Rattle.scp_again.proofs.Current.{true_false, slots_are, kinds_are, alike}
 use Rattle.scp_again.proofs.Put.{IsApart}

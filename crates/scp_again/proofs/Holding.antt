@@ -9,10 +9,10 @@ use Rattle.scp_wire.specs.declared.message.Message.{Message}
 use Rattle.scp_wire.specs.declared.message.Message.TheVariants.{Envelope}
 use Rattle.scp_outbox.specs.Outbox.{OutboxView, Gives}
 use Rattle.scp_outbox.specs.declared.mark.Out.TheVariants as out
-use Rattle.scp_outboxes.specs.Handing.{PutsAll}
-use Rattle.scp_outboxes.specs.Sent.{statement_of, IsStep, AreNewer}
-use Rattle.scp_outboxes.specs.Waiting.{Owes}
-use Rattle.scp_outboxes.specs.Laws.{PutsKeepOwes, GivesKeepOwes}
+use Rattle.scp_outbox.specs.Handing.{PutsAll}
+use Rattle.scp_outbox.specs.Sent.{statement_of, IsStep, AreNewer}
+use Rattle.scp_outbox.specs.Waiting.{Owes}
+use Rattle.scp_outbox.specs.Sending.{PutsKeepOwes, GivesKeepOwes}
 use Rattle.scp_ledger.specs.Seen.{LedgerView}
 use Rattle.scp_grounds.specs.Grounds.{Who}
 use Rattle.scp_grounds.proofs.Basics.{some_same}

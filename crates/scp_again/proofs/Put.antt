@@ -9,7 +9,7 @@ use Rattle.scp_envelope.specs.declared.statement.Envelope.{Envelope as Enveloped
 use Rattle.scp_envelope.specs.declared.statement.Statement.{Statement}
 use Rattle.scp_wire.specs.declared.message.Message.{Message}
 use Rattle.scp_outbox.specs.Outbox.{is_nomination, are_alike}
-use Rattle.scp_outboxes.specs.Sent.{statement_of}
+use Rattle.scp_outbox.specs.Sent.{statement_of}
 use Rattle.scp_slot.specs.declared.output.Emitted.{Emitted}
 use Rattle.scp_ledger.specs.Seen.{LedgerView}
 use Rattle.scp_ledger.specs.Takes.{to_all, to_peers}

@@ -9,7 +9,7 @@ use Rattle.scp_envelope.specs.declared.statement.Statement.{Statement}
 use Rattle.scp_wire.specs.declared.message.Message.{Message}
 use Rattle.scp_wire.specs.declared.message.Message.TheVariants.{GetRecord}
 use Rattle.scp_outbox.specs.Outbox.{is_nomination}
-use Rattle.scp_outboxes.specs.Sent.{statement_of}
+use Rattle.scp_outbox.specs.Sent.{statement_of}
 use Rattle.scp_nominate.specs.Nomination as nominate
 use Rattle.scp_slot.specs.declared.machine.SlotMachine.{SlotMachine}
 use Rattle.scp_slot.specs.Slot.{slot_view}

@@ -16,9 +16,9 @@ use Rattle.scp_wire.specs.declared.message.Message.TheVariants as message
 use Rattle.scp_wire.specs.declared.side.SideMessage.{SideMessage}
 use Rattle.scp_wire.specs.declared.side.SideMessage.TheVariants as side
 use Rattle.scp_outbox.specs.Outbox.{OutboxView}
-use Rattle.scp_outboxes.specs.Handing.{PutsAll, GivesThere}
-use Rattle.scp_outboxes.specs.Laws.{PutsKeepOwes, GivesKeepOwes}
-use Rattle.scp_outboxes.specs.Sent.{statement_of}
+use Rattle.scp_outbox.specs.Handing.{PutsAll, GivesThere}
+use Rattle.scp_outbox.specs.Sending.{PutsKeepOwes, GivesKeepOwes}
+use Rattle.scp_outbox.specs.Sent.{statement_of}
 use Rattle.scp_fetch.specs.Store.{lookup}
 use Rattle.scp_fetch.specs.Wants.{is_asked}
 use Rattle.scp_pending.specs.Queues.{is_open, waited_by}

@@ -2,7 +2,7 @@
 ghost use Rattle.scp_again.specs.Laws.{NodesNeverGoBack};
 
 use scp_driver::Driver;
-use scp_outboxes::what_is_given_was_handed_out;
+use scp_outbox::what_is_given_was_handed_out;
 
 /// Over each link of a node that runs, with what is sent once more at any moments, of two statements of one slot and kind the later one is the same or
 /// newer.

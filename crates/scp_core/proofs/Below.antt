@@ -4,7 +4,7 @@ use Rattle.scp_wire.specs.Parts.{OneMoreIsOfLink}
 use Rattle.scp_wire.specs.ReaderLaws.{ReadingsAreInOrder, ReadingsGrow, ReadingsGrowByOne}
 use Rattle.scp_pending.specs.Fetching.{RepliesAreAskedFor}
 use Rattle.scp_pending.specs.Linked.{NothingIsOfAStranger, WhoItIsStays}
-use Rattle.scp_outboxes.specs.Laws.{EmptySends, PutsKeepSends, GivesKeepSends}
+use Rattle.scp_outbox.specs.Sending.{EmptySends, PutsKeepSends, GivesKeepSends}
 use Rattle.scp_ledger.specs.Journals.{JournalsPass, TakesGrow}
 use Rattle.scp_apply.specs.Applies.{AppliesPass}
 use Rattle.scp_theorem.specs.Kept.{RanKeepsLedger}

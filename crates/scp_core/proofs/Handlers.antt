@@ -20,7 +20,7 @@ use Rattle.scp_ledger.specs.Seen.{LedgerView}
 use Rattle.scp_ledger.specs.By.{TakesBy, TellsBy}
 use Rattle.scp_wire.specs.declared.message.Message.{Message}
 use Rattle.scp_outbox.specs.Outbox.{OutboxView}
-use Rattle.scp_outboxes.specs.Handing.{GivesAt, GivesThere}
+use Rattle.scp_outbox.specs.Handing.{GivesAt, GivesThere}
 use Rattle.scp_apply.specs.Applier.{ApplierView}
 use Rattle.scp_apply.specs.Applier.{Takes as ApplierTakes}
 use Rattle.scp_core.specs.inside.Decider.{DeciderView, Decides, AppliesNext, Applies, Keeps}

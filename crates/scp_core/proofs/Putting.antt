@@ -9,7 +9,7 @@ use Rattle.scp_envelope.specs.declared.statement.Envelope.{Envelope as Enveloped
 use Rattle.scp_wire.specs.Boxed.{Boxed}
 use Rattle.scp_outbox.specs.Outbox.{OutboxView}
 use Rattle.scp_wire.specs.Fitting.{IsFitting}
-use Rattle.scp_outboxes.specs.Handing.{PutsAll, HandsOut, to_link, to_each}
+use Rattle.scp_outbox.specs.Handing.{PutsAll, HandsOut, to_link, to_each}
 use Rattle.scp_ledger.specs.declared.took.Outgoing.{Outgoing}
 use Rattle.scp_ledger.specs.declared.took.Outgoing.TheVariants.{ToAll, To}
 use Rattle.scp_grounds.specs.Handed.{handed_by, out_of}

@@ -7,7 +7,7 @@ use Rattle.scp_wire.specs.declared.message.Message.{Message}
 use Rattle.scp_wire.specs.Message.{message_value, SpellsMessage}
 use Rattle.scp_wire.specs.Fitting.{IsFitting}
 use Rattle.scp_outbox.specs.Outbox.{OutboxView}
-use Rattle.scp_outboxes.specs.Handing.{GivesThere}
+use Rattle.scp_outbox.specs.Handing.{GivesThere}
 use Rattle.scp_ledger.specs.declared.took.Outgoing.{Outgoing}
 use Rattle.scp_pending.specs.declared.ready.Ready.{Ready}
 use Rattle.scp_pending.specs.Pends.{Pends}

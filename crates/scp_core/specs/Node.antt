@@ -18,7 +18,7 @@ use Rattle.scp_wire.specs.Message.{message_value, SpellsMessage}
 use Rattle.scp_wire.specs.LinkReading.{ReaderView, unread, reading, after}
 use Rattle.scp_wire.specs.Connections.{conn_at}
 use Rattle.scp_outbox.specs.Outbox.{OutboxView}
-use Rattle.scp_outboxes.specs.Handing.{HandsOut, GivesNext, GivesThere}
+use Rattle.scp_outbox.specs.Handing.{HandsOut, GivesNext, GivesThere}
 use Rattle.scp_pending.specs.declared.ready.Ready.{Ready}
 use Rattle.scp_pending.specs.Passes.{Passes}
 use Rattle.scp_pending.specs.Rules.{PendingView, taken_in, reply as reply_to}

@@ -1,7 +1,7 @@
 -- The ledger theorem: what holds of every list of events, their replies, and the node that they left.
 use Rattle.std.specs.Prelude.{ℕ, ◌≡◌, true, false, List, [], ◌∷◌, ◌++◌, ◌⊎◌, None, length, replicate}
 use Rattle.scp_driver.specs.Driver.{Says}
-use Rattle.scp_outboxes.specs.Handing.{empty_outbox}
+use Rattle.scp_outbox.specs.Handing.{empty_outbox}
 use Rattle.scp_pending.specs.Rules.{fresh}
 use Rattle.scp_ledger.specs.Runs.{nothing_taken}
 use Rattle.scp_core.specs.declared.config.Config.{Config}

@@ -18,7 +18,7 @@ use scp_ledger::{
     CommandFate, Fate, Ledger, Onward, SharedDecision,
     what_holds_of_a_ledger_holds_with_one_thing_more,
 };
-use scp_outboxes::Outboxes;
+use scp_outbox::Outboxes;
 use scp_pending::Ready;
 use scp_quorum::SaneSet;
 use scp_types::{Fault, NodeId, Slot, Value};

@@ -10,7 +10,7 @@ use crate::event::Reply;
 use crate::said::SaidList;
 use scp_envelope::SharedEnvelope;
 use scp_ledger::{Outgoing, OutgoingList};
-use scp_outboxes::Outboxes;
+use scp_outbox::Outboxes;
 use scp_types::Fault;
 use scp_wire::{BoxedEnvelope, Bytes, FittingMessage, Message, encode};
 use std::alloc::Global;

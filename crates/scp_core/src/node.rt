@@ -8,7 +8,7 @@ ghost use Rattle.scp_apply.specs.Applied.{made_of, value_of};
 ghost use Rattle.scp_core.specs.Config.{IsConfig, IsConfigOfMany, IsConfigWithin, IsFitWithin, are_apart};
 ghost use Rattle.scp_core.specs.History.{peer_at, Exchange};
 ghost use Rattle.scp_core.specs.Node.{Step, Keeps, LeavesRoom, fault_after, HasLink, lives_at, room_at, queued_at, accepts_at, item_at, has_read_at};
-ghost use Rattle.scp_outboxes.specs.Handing.{waiting_at, overwritten_at};
+ghost use Rattle.scp_outbox.specs.Handing.{waiting_at, overwritten_at};
 ghost use Rattle.scp_core.specs.Theorem.{LedgerTheorem};
 ghost use Rattle.scp_core.specs.inside.Starting.{IsNew};
 
@@ -26,7 +26,7 @@ use scp_ledger::{
     CommandFate, Fate, Ledger, Onward, SharedDecision,
     what_holds_of_a_ledger_holds_with_one_thing_more,
 };
-use scp_outboxes::Outboxes;
+use scp_outbox::Outboxes;
 use scp_pending::{Pending, Ready};
 use scp_quorum::{QuorumSet, SaneSet};
 use scp_timers::{Timer, timers};

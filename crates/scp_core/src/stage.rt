@@ -13,7 +13,7 @@ use scp_ledger::{
     CommandFate, Fate, JOURNAL_LIMIT, Ledger, Onward, SharedDecision,
     what_holds_of_a_ledger_holds_with_one_thing_more,
 };
-use scp_outboxes::Outboxes;
+use scp_outbox::Outboxes;
 use scp_pending::Ready;
 use scp_quorum::SaneSet;
 use scp_types::{Fault, NodeId};

@@ -9,9 +9,9 @@ use Rattle.scp_wire.specs.declared.message.Message.{Message}
 use Rattle.scp_outbox.specs.declared.mark.Out.{Out}
 use Rattle.scp_outbox.specs.declared.mark.Out.TheVariants as out
 use Rattle.scp_outbox.specs.Outbox.{OutboxView}
-use Rattle.scp_outboxes.specs.Sent.{statement_of, IsStep, AreNewer}
-use Rattle.scp_outboxes.specs.Waiting.{Owes, and_given}
-use Rattle.scp_outboxes.specs.Laws.{EmptyOwes, PutsKeepOwes, GivesKeepOwes, MarksKeepOwes}
+use Rattle.scp_outbox.specs.Sent.{statement_of, IsStep, AreNewer}
+use Rattle.scp_outbox.specs.Waiting.{Owes, and_given}
+use Rattle.scp_outbox.specs.Sending.{EmptyOwes, PutsKeepOwes, GivesKeepOwes, MarksKeepOwes}
 use Rattle.scp_desk.specs.declared.turn.Turn.{Turn}
 use Rattle.scp_desk.specs.declared.turn.Turn.TheVariants.{Puts, Marks, Gives}
 use Rattle.scp_desk.specs.Turns.{Stands, put_by, given}

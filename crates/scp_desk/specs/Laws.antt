@@ -5,7 +5,7 @@ use Rattle.scp_outbox.specs.declared.mark.Mark.{Mark}
 use Rattle.scp_outbox.specs.declared.mark.Out.{Out}
 use Rattle.scp_outbox.specs.declared.mark.Out.TheVariants as out
 use Rattle.scp_outbox.specs.Outbox.{OutboxView}
-use Rattle.scp_outboxes.specs.Sent.{statement_of, AreNewer}
+use Rattle.scp_outbox.specs.Sent.{statement_of, AreNewer}
 use Rattle.scp_desk.specs.Turns.{IsOutOf}
 
 -- each message that was given was put by a producer

@@ -23,5 +23,5 @@ pub fn marks_are_given_in_order()
 pub fn statements_are_given_in_order()
     ensures order { StatementsGoInOrder }
 {
-    scp_outboxes::what_is_given_was_handed_out();
+    scp_outbox::what_is_given_was_handed_out();
 }

@@ -7,7 +7,7 @@ use Rattle.std.proofs.lemmas.List.{map-append}
 use Rattle.std.proofs.lemmas.Grind.{flat_map-append}
 use Rattle.scp_driver.specs.Driver.{Says}
 use Rattle.scp_outbox.specs.Outbox.{OutboxView}
-use Rattle.scp_outboxes.specs.Handing.{waiting_in, waiting_at}
+use Rattle.scp_outbox.specs.Handing.{waiting_in, waiting_at}
 use Rattle.scp_wire.specs.declared.link.Bytes.{Bytes}
 use Rattle.scp_core.specs.declared.event.Event.{Event}
 use Rattle.scp_core.specs.declared.event.Event.TheVariants as event

@@ -9,8 +9,8 @@ use Rattle.scp_outbox.specs.Outbox.{is_nomination}
 use Rattle.scp_wire.specs.declared.link.Command.TheVariants.{Ask}
 use Rattle.scp_wire.specs.declared.message.Message.{Message}
 use Rattle.scp_wire.specs.declared.message.Message.TheVariants.{GetRecord}
-use Rattle.scp_outboxes.specs.Handing.{to_link}
-use Rattle.scp_outboxes.specs.Sent.{statement_of, IsStep, AreNewer}
+use Rattle.scp_outbox.specs.Handing.{to_link}
+use Rattle.scp_outbox.specs.Sent.{statement_of, IsStep, AreNewer}
 use Rattle.scp_pending.specs.declared.ready.Ready.{Ready}
 use Rattle.scp_pending.specs.declared.ready.Ready.TheVariants as ready
 use Rattle.scp_ledger.specs.declared.took.Outgoing.{Outgoing}

@@ -10,8 +10,8 @@ use Rattle.scp_envelope.specs.declared.statement.Statement.{Statement}
 use Rattle.scp_wire.specs.declared.message.Message.{Message}
 use Rattle.scp_wire.specs.declared.message.Message.TheVariants.{Envelope, GetSet, Set, NoSet, GetRecord, Record, Records}
 use Rattle.scp_outbox.specs.Outbox.{is_nomination, same_bool}
-use Rattle.scp_outboxes.specs.Handing.{to_link}
-use Rattle.scp_outboxes.specs.Sent.{statement_of, IsStep, AreNewer}
+use Rattle.scp_outbox.specs.Handing.{to_link}
+use Rattle.scp_outbox.specs.Sent.{statement_of, IsStep, AreNewer}
 use Rattle.scp_ledger.specs.Seen.{LedgerView}
 use Rattle.scp_grounds.specs.Grounds.{Grounds, MaySend}
 use Rattle.scp_grounds.proofs.Basics.{true_isnt, and_second}

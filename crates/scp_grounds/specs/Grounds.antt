@@ -22,7 +22,7 @@ use Rattle.scp_wire.specs.declared.link.Inbound.TheVariants as inbound
 use Rattle.scp_wire.specs.declared.message.Message.{Message}
 use Rattle.scp_wire.specs.declared.message.Message.TheVariants as message
 use Rattle.scp_wire.specs.declared.side.SideMessage.TheVariants as side
-use Rattle.scp_outboxes.specs.Sent.{AreNewer}
+use Rattle.scp_outbox.specs.Sent.{AreNewer}
 use Rattle.scp_pending.specs.Queues.{is_open, named, hash_of}
 use Rattle.scp_pending.specs.Rules.{Settled, fresh, settled_by}
 use Rattle.scp_ledger.specs.declared.journal.Decision.{Decision}

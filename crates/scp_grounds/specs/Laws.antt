@@ -4,7 +4,7 @@ use Rattle.std.specs.List.{AllByRecursion}
 use Rattle.scp_driver.specs.Driver.{Says}
 use Rattle.scp_wire.specs.declared.link.Command.{Command}
 use Rattle.scp_wire.specs.declared.message.Message.{Message}
-use Rattle.scp_outboxes.specs.Sent.{statement_of, AreNewer}
+use Rattle.scp_outbox.specs.Sent.{statement_of, AreNewer}
 use Rattle.scp_pending.specs.Endings.{commands_in, commands_of}
 use Rattle.scp_ledger.specs.declared.took.Onward.{Onward}
 use Rattle.scp_ledger.specs.declared.took.Outgoing.{Outgoing}

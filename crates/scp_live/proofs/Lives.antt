@@ -3,7 +3,7 @@ use Rattle.std.proofs.Common.{◌≡◌, ℕ, zero, suc, false, List, [], ◌∷
 use Rattle.std.specs.Prelude.{replicate, slice_get, if◌then◌else◌}
 use Rattle.scp_driver.specs.Kv.{kv_says}
 use Rattle.scp_wire.specs.declared.message.Message.{Message}
-use Rattle.scp_outboxes.specs.Handing.{waiting_at}
+use Rattle.scp_outbox.specs.Handing.{waiting_at}
 use Rattle.scp_core.specs.declared.event.Event.{Event}
 use Rattle.scp_core.specs.declared.event.Event.TheVariants as event
 use Rattle.scp_core.specs.declared.event.Reply.{Reply}

@@ -1,2 +1,3 @@
 pub mod Outbox
 pub mod Statements
+pub mod Putting

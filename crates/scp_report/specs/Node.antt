@@ -5,7 +5,7 @@ use Rattle.scp_types.specs.declared.names.NodeId.{NodeId}
 use Rattle.scp_kv.specs.Map.{KvMap}
 use Rattle.scp_kv.specs.State.{fold_of}
 use Rattle.scp_outbox.specs.Outbox.{OutboxView}
-use Rattle.scp_outboxes.specs.Handing.{waiting_at, overwritten_at}
+use Rattle.scp_outbox.specs.Handing.{waiting_at, overwritten_at}
 use Rattle.scp_apply.specs.Applied.{values_of}
 use Rattle.scp_core.specs.Kv.{NodeView}
 use Rattle.scp_report.specs.declared.report.LinkReport.{LinkReport}

@@ -14,7 +14,7 @@ use Rattle.scp_core.specs.History.{peer_at}
 use Rattle.scp_core.specs.Node.{lives_at, queued_at}
 use Rattle.scp_core.specs.Kv.{NodeView}
 use Rattle.scp_turn.specs.Turn.{links_of}
-use Rattle.scp_outboxes.specs.Handing.{waiting_at}
+use Rattle.scp_outbox.specs.Handing.{waiting_at}
 use Rattle.scp_script.specs.declared.command.Command.{Command}
 use Rattle.scp_script.specs.declared.command.Command.TheVariants as script
 use Rattle.scp_script.specs.Script.{is_link, is_open}

@@ -1,8 +1,7 @@
 //! What an outbox gives, and when.
 use crate::short::{Short, message};
 use scp_envelope::Pledges;
-use scp_outbox::{Mark, Out, Outbox};
-use scp_outboxes::Outboxes;
+use scp_outbox::{Mark, Out, Outbox, Outboxes};
 use scp_types::{Fault, Hash};
 use scp_wire::{BoxedEnvelope, FittingMessage, Message};
 use std::alloc::Global;

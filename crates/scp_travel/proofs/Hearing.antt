@@ -15,7 +15,7 @@ use Rattle.scp_wire.specs.declared.message.Message.TheVariants.{Envelope, GetSet
 use Rattle.scp_wire.specs.LinkReading.{ReaderView, unread, numbered, singles, is_spent, brought_each, after_each, brought, after_read, readings}
 use Rattle.scp_wire.specs.Message.{message_value, SpellsMessage}
 use Rattle.scp_wire.specs.Reading.{reading_of, SpellingIsRead}
-use Rattle.scp_outboxes.specs.Sent.{statement_of, IsStep}
+use Rattle.scp_outbox.specs.Sent.{statement_of, IsStep}
 use Rattle.scp_grounds.specs.Grounds.{Grounds, MaySend}
 use Rattle.scp_travel.specs.Sent.{bytes_among}
 use Rattle.scp_travel.specs.Theirs.{message_by, messages_by, IsWellRead, WhatIsReadIsTheirs, WhatCameFirstIsTheirs}

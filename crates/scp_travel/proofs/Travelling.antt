@@ -12,7 +12,7 @@ use Rattle.scp_outbox.specs.declared.mark.Mark.{Mark}
 use Rattle.scp_outbox.specs.declared.mark.Mark.TheVariants.{Opened, Closed, Stop}
 use Rattle.scp_outbox.specs.declared.mark.Out.{Out}
 use Rattle.scp_outbox.specs.declared.mark.Out.TheVariants as out
-use Rattle.scp_outboxes.specs.Sent.{statement_of}
+use Rattle.scp_outbox.specs.Sent.{statement_of}
 use Rattle.scp_desk.specs.Laws.{messages_of, GivenWasPut, StatementsGoInOrder}
 use Rattle.scp_desks.specs.Table.{by_three}
 use Rattle.scp_ends.specs.Links.{LinkEnd, conn_now, conn_next, with_item}

@@ -9,7 +9,7 @@ use Rattle.scp_wire.specs.declared.message.Message.TheVariants as message
 use Rattle.scp_wire.specs.declared.side.SideMessage.{SideMessage}
 use Rattle.scp_wire.specs.declared.side.SideMessage.TheVariants as side
 use Rattle.scp_wire.specs.LinkReading.{unread, readings}
-use Rattle.scp_outboxes.specs.Sent.{AreNewer}
+use Rattle.scp_outbox.specs.Sent.{AreNewer}
 use Rattle.scp_grounds.specs.Grounds.{Grounds, MaySend, IsSentOut}
 use Rattle.scp_travel.specs.Sent.{bytes_among}
 

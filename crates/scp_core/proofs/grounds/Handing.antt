@@ -7,10 +7,10 @@ use Rattle.std.proofs.lemmas.Bool.{eqb-true, eqb-false}
 use Rattle.scp_wire.specs.declared.message.Message.{Message}
 use Rattle.scp_wire.specs.Message.{message_value, SpellsMessage}
 use Rattle.scp_outbox.specs.Outbox.{OutboxView}
-use Rattle.scp_outboxes.specs.Handing.{PutsAll, GivesThere, empty_outbox}
-use Rattle.scp_outboxes.specs.Sent.{statement_of, IsStep, AreNewer, AreSent}
-use Rattle.scp_outboxes.specs.Waiting.{Sends}
-use Rattle.scp_outboxes.specs.Laws.{EmptySends, PutsKeepSends, GivesKeepSends}
+use Rattle.scp_outbox.specs.Handing.{PutsAll, GivesThere, empty_outbox}
+use Rattle.scp_outbox.specs.Sent.{statement_of, IsStep, AreNewer, AreSent}
+use Rattle.scp_outbox.specs.Waiting.{Sends}
+use Rattle.scp_outbox.specs.Sending.{EmptySends, PutsKeepSends, GivesKeepSends}
 use Rattle.scp_pending.specs.Queues.{hash_of}
 use Rattle.scp_ledger.specs.declared.took.Outgoing.{Outgoing}
 use Rattle.scp_ledger.specs.Seen.{LedgerView}

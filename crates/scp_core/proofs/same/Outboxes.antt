@@ -8,7 +8,7 @@ use Rattle.scp_wire.specs.declared.message.Message.TheVariants.{Envelope, GetSet
 use Rattle.scp_outbox.specs.Outbox.{OutboxView, are_alike, Replaces, GoesLast, Takes, counted, Puts, given}
 use Rattle.scp_outbox.specs.declared.mark.Out.{Out}
 use Rattle.scp_outbox.specs.declared.mark.Out.TheVariants as out
-use Rattle.scp_outboxes.specs.Handing.{PutsAll, HandsOut, GivesNext, GivesThere}
+use Rattle.scp_outbox.specs.Handing.{PutsAll, HandsOut, GivesNext, GivesThere}
 use Rattle.scp_core.proofs.same.Ones.{some_one}
 
 replaces_one : (old : List Boxed) (place : ℕ) (came : Boxed) (a b : List Boxed) (m n : ℕ) → Replaces old place came a m → Replaces old place came b n → (a ≡ b) × (m ≡ n)

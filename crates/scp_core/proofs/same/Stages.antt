@@ -8,7 +8,7 @@ use Rattle.scp_wire.specs.Message.{message_kind, message_value}
 use Rattle.scp_wire.specs.declared.link.Inbound.{Inbound}
 use Rattle.scp_wire.specs.declared.message.Message.{Message}
 use Rattle.scp_outbox.specs.Outbox.{OutboxView}
-use Rattle.scp_outboxes.specs.Handing.{GivesNext}
+use Rattle.scp_outbox.specs.Handing.{GivesNext}
 use Rattle.scp_pending.specs.declared.ready.Ready.{Ready}
 use Rattle.scp_types.specs.declared.names.NodeId.{NodeId}
 use Rattle.scp_pending.specs.Passes.{Passes}

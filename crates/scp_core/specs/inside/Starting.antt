@@ -5,7 +5,7 @@ use Rattle.scp_pending.specs.Pends.{Pends}
 use Rattle.scp_pending.specs.Rules.{fresh}
 use Rattle.scp_ledger.specs.Ledger.{IsLedger}
 use Rattle.scp_ledger.specs.Runs.{nothing_taken}
-use Rattle.scp_outboxes.specs.Handing.{empty_outbox}
+use Rattle.scp_outbox.specs.Handing.{empty_outbox}
 use Rattle.scp_core.specs.declared.event.Event.{Event}
 use Rattle.scp_core.specs.declared.event.Reply.{Reply}
 use Rattle.scp_core.specs.Config.{are_apart}

@@ -1,8 +1,8 @@
 use Rattle.std.proofs.Common.{rules, ◌≡◌, ◌∙◌, ◌++◌, ◌∷◌, [], ap, add-one}
 use Rattle.std.specs.Prelude.{replicate}
-use Rattle.scp_outboxes.specs.Handing.{empty_outbox}
-use Rattle.scp_outboxes.proofs.Putting.{replicate-push}
-use Rattle.scp_outboxes.proofs.outboxes.new_outboxes.Goals as goal
+use Rattle.scp_outbox.specs.Handing.{empty_outbox}
+use Rattle.scp_outbox.proofs.Putting.{replicate-push}
+use Rattle.scp_outbox.proofs.outboxes.new_outboxes.Goals as goal
 
 pub loop-preserved : goal.loop-preserved
 loop-preserved c =

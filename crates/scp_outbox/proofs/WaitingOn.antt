@@ -8,10 +8,10 @@ use Rattle.scp_wire.specs.declared.message.Message.{Message}
 use Rattle.scp_wire.specs.declared.message.Message.TheVariants.{Envelope, GetSet, Set, NoSet, GetRecord, Record, Records}
 use Rattle.scp_outbox.specs.Laws.{StatementsKeepOneEach}
 use Rattle.scp_outbox.specs.Outbox.{OutboxView, keep_last, are_alike, AreOneEach, GoesLast, counted, Takes, Replaces, Puts}
-use Rattle.scp_outboxes.specs.Handing.{PutsAll, empty_outbox}
-use Rattle.scp_outboxes.specs.Sent.{statement_of, IsStep, AreNewer}
-use Rattle.scp_outboxes.specs.Waiting.{Owes}
-use Rattle.scp_outboxes.specs.Laws.{EmptyOwes, PutsKeepOwes, MarksKeepOwes, EmptySends, PutsKeepSends}
+use Rattle.scp_outbox.specs.Handing.{PutsAll, empty_outbox}
+use Rattle.scp_outbox.specs.Sent.{statement_of, IsStep, AreNewer}
+use Rattle.scp_outbox.specs.Waiting.{Owes}
+use Rattle.scp_outbox.specs.Sending.{EmptyOwes, PutsKeepOwes, MarksKeepOwes, EmptySends, PutsKeepSends}
 
 -- what was owed is owed of more
 owes_grow : (handed more ms : List Message) (o : OutboxView) → Owes handed ms o → Owes (handed ++ more) ms o

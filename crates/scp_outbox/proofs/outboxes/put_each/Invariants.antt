@@ -1,5 +1,5 @@
-use Rattle.scp_outboxes.proofs.Putting.{PutBelow}
-use Rattle.scp_outboxes.proofs.outboxes.put_each.Given as goal
+use Rattle.scp_outbox.proofs.Putting.{PutBelow}
+use Rattle.scp_outbox.proofs.outboxes.put_each.Given as goal
 
 abbrev pub invariant-loop-outbox : goal.invariant-loop-outbox
 invariant-loop-outbox l = PutBelow l.fn.outboxes.items l.message l.outbox-index l.outbox-items

@@ -6,9 +6,9 @@ use Rattle.scp_outbox.specs.Outbox.{OutboxView, Puts, Gives}
 use Rattle.scp_outbox.specs.declared.mark.Mark.{Mark}
 use Rattle.scp_outbox.specs.declared.mark.Out.{Out}
 use Rattle.scp_outbox.specs.declared.mark.Out.TheVariants as out
-use Rattle.scp_outboxes.specs.Handing.{PutsAll, HandsOut, empty_outbox}
-use Rattle.scp_outboxes.specs.Sent.{statement_of, IsStep, AreNewer, AreSent}
-use Rattle.scp_outboxes.specs.Waiting.{Owes, and_given, Sends}
+use Rattle.scp_outbox.specs.Handing.{PutsAll, HandsOut, empty_outbox}
+use Rattle.scp_outbox.specs.Sent.{statement_of, IsStep, AreNewer, AreSent}
+use Rattle.scp_outbox.specs.Waiting.{Owes, and_given, Sends}
 
 -- it holds at first: nothing was handed out, nothing was given, and nothing waits
 abbrev pub EmptyOwes : Type 0

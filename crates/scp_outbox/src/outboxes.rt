@@ -2,10 +2,10 @@
 ghost use Rattle.std.specs.Prelude.{◌≡◌, ◌<◌, length, IfOk, OnOk, IsOkUnless, IfSome, replicate};
 ghost use Rattle.scp_wire.specs.Fitting.{IsFitting};
 ghost use Rattle.scp_outbox.specs.Outbox.{Puts};
-ghost use Rattle.scp_outboxes.specs.Handing.{empty_outbox, HandsOut, to_link, to_each, GivesNext, GivesAt, waiting_at, overwritten_at};
-ghost use Rattle.scp_outboxes.specs.inside.Putting.{PutsAt};
+ghost use Rattle.scp_outbox.specs.Handing.{empty_outbox, HandsOut, to_link, to_each, GivesNext, GivesAt, waiting_at, overwritten_at};
+ghost use Rattle.scp_outbox.specs.inside.Putting.{PutsAt};
 
-use scp_outbox::{Out, Outbox};
+use crate::{Out, Outbox};
 use scp_types::Fault;
 use scp_wire::{FittingMessage, Message};
 use std::alloc::Global;
@@ -30,7 +30,7 @@ impl Model for LiveOutbox {
 
     ghost view = { λ a. a.outbox };
 
-    ghost use Rattle.scp_outboxes.specs.inside.Putting.{IsLive};
+    ghost use Rattle.scp_outbox.specs.inside.Putting.{IsLive};
 
     ghost invariant = { λ a. IsLive a.outbox };
 }

@@ -4,9 +4,9 @@ use Rattle.std.specs.Prelude.{take, drop}
 use Rattle.std.proofs.lemmas.Option.{slice_get-get_or}
 use Rattle.scp_wire.specs.declared.message.Message.{Message}
 use Rattle.scp_outbox.specs.Outbox.{OutboxView, Puts}
-use Rattle.scp_outboxes.specs.Handing.{HandsOut, to_each}
-use Rattle.scp_outboxes.proofs.Putting.{PutBelow, none_put, one_more, all_put}
-use Rattle.scp_outboxes.proofs.outboxes.put_each.Goals as goal
+use Rattle.scp_outbox.specs.Handing.{HandsOut, to_each}
+use Rattle.scp_outbox.proofs.Putting.{PutBelow, none_put, one_more, all_put}
+use Rattle.scp_outbox.proofs.outboxes.put_each.Goals as goal
 
 pub loop-outbox-init : goal.loop-outbox-init
 loop-outbox-init c = subst (λ (xs : List OutboxView). PutBelow c.args.outboxes.now.items c.args.message.now 0 xs) (sym c.deref_mut-outbox-items.ensures.value) (none_put c.args.outboxes.now.items c.args.message.now)

@@ -6,9 +6,9 @@ use Rattle.std.proofs.lemmas.List.{length-set}
 use Rattle.scp_wire.specs.declared.message.Message.{Message}
 use Rattle.scp_outbox.specs.Outbox.{OutboxView, Puts}
 use Rattle.scp_wire.specs.Fitting.{IsFitting}
-use Rattle.scp_outboxes.specs.Handing.{PutsAll, HandsOut, to_link, to_each}
-use Rattle.scp_outboxes.specs.inside.Putting.{PutsAt}
-use Rattle.scp_outboxes.specs.Laws.{NothingChangesNothing, TurnsAddUp}
+use Rattle.scp_outbox.specs.Handing.{PutsAll, HandsOut, to_link, to_each}
+use Rattle.scp_outbox.specs.inside.Putting.{PutsAt}
+use Rattle.scp_outbox.specs.Sending.{NothingChangesNothing, TurnsAddUp}
 
 set_at : {X : Type 0} (xs : List X) (l : ℕ) (x y : X) → slice_get xs l ≡ Some x → slice_get (slice_set xs l y) l ≡ Some y
 set_at [] l x y e = absurd cc

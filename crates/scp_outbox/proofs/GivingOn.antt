@@ -13,10 +13,10 @@ use Rattle.scp_outbox.specs.Outbox.{OutboxView, are_alike, AreOneEach, given_sta
 use Rattle.scp_outbox.specs.declared.mark.Mark.{Mark}
 use Rattle.scp_outbox.specs.declared.mark.Out.{Out}
 use Rattle.scp_outbox.specs.declared.mark.Out.TheVariants as out
-use Rattle.scp_outboxes.specs.Sent.{statement_of, IsStep, AreNewer}
-use Rattle.scp_outboxes.specs.Waiting.{Owes, and_given}
-use Rattle.scp_outboxes.specs.Laws.{GivesKeepOwes, GivesKeepSends, MarksKeepSends, SendsAreSent}
-use Rattle.scp_outboxes.proofs.Waiting.{mark_left}
+use Rattle.scp_outbox.specs.Sent.{statement_of, IsStep, AreNewer}
+use Rattle.scp_outbox.specs.Waiting.{Owes, and_given}
+use Rattle.scp_outbox.specs.Sending.{GivesKeepOwes, GivesKeepSends, MarksKeepSends, SendsAreSent}
+use Rattle.scp_outbox.proofs.WaitingOn.{mark_left}
 
 step_none : (o : Option Statement) → IsStep o None
 step_none None = tt

@@ -6,7 +6,7 @@ use Rattle.scp_wire.specs.declared.message.Message.TheVariants.{Envelope}
 use Rattle.scp_outbox.specs.declared.mark.Out.{Out}
 use Rattle.scp_outbox.specs.declared.mark.Out.TheVariants as out
 use Rattle.scp_outbox.specs.Outbox.{OutboxView, AreOneEach}
-use Rattle.scp_outboxes.specs.Sent.{statement_of, IsStep, AreNewer, AreSent}
+use Rattle.scp_outbox.specs.Sent.{statement_of, IsStep, AreNewer, AreSent}
 
 -- The messages that were given had been handed out, and each statement is newer than all of its slot and kind before it. What
 -- waits was handed out too, at most one statement of each slot and kind, and is newer than those that were given.

@@ -1,5 +1,5 @@
-use Rattle.scp_outboxes.proofs.Putting.{nothing_changes, turns_add_up}
-use Rattle.scp_outboxes.proofs.laws.what_is_handed_out_adds_up.Goals as goal
+use Rattle.scp_outbox.proofs.Putting.{nothing_changes, turns_add_up}
+use Rattle.scp_outbox.proofs.sending.what_is_handed_out_adds_up.Goals as goal
 
 pub returns-clause-none : goal.returns-clause-none
 returns-clause-none c = nothing_changes

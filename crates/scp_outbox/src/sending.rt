@@ -1,7 +1,7 @@
 //! Laws of what is sent. Each is the contract of a function that does nothing.
-ghost use Rattle.scp_outboxes.specs.Laws.{EmptyOwes, PutsKeepOwes, GivesKeepOwes, MarksKeepOwes, EmptySends, PutsKeepSends, GivesKeepSends, MarksKeepSends, SendsAreSent, NothingChangesNothing, TurnsAddUp};
+ghost use Rattle.scp_outbox.specs.Sending.{EmptyOwes, PutsKeepOwes, GivesKeepOwes, MarksKeepOwes, EmptySends, PutsKeepSends, GivesKeepSends, MarksKeepSends, SendsAreSent, NothingChangesNothing, TurnsAddUp};
 
-use scp_outbox::one_statement_waits_of_each_slot_and_kind;
+use crate::one_statement_waits_of_each_slot_and_kind;
 
 /// All that an outbox gives was handed out. If each statement handed out is newer than those of its slot and kind before it, so
 /// is each that is given. This holds at first, and stays so when a message is handed out and put, when the next is given, and
