@@ -3,7 +3,7 @@ ghost use Rattle.std.specs.Prelude.{◌≡◌, ◌≢◌, ◌∷◌, [], ◌++�
 ghost use Rattle.scp_types.specs.declared.limits.TheConstants.{WINDOW};
 ghost use Rattle.scp_ledger.specs.declared.journal.Fate.{Fate};
 ghost use Rattle.scp_pending.specs.Line.{count_held};
-ghost use Rattle.scp_timers.specs.Timers.{AreTimers};
+ghost use Rattle.scp_ledger.specs.Timers.{AreTimers};
 ghost use Rattle.scp_apply.specs.Applied.{made_of, value_of};
 ghost use Rattle.scp_core.specs.Config.{IsConfig, IsConfigOfMany, IsConfigWithin, IsFitWithin, are_apart};
 ghost use Rattle.scp_core.specs.History.{peer_at, Exchange};
@@ -23,13 +23,13 @@ use circular_buffer::HeapCircularBuffer;
 use scp_driver::{Application, KvDriver};
 use scp_envelope::SharedEnvelope;
 use scp_ledger::{
-    CommandFate, Fate, Ledger, Onward, SharedDecision,
+    CommandFate, Fate, Ledger, Onward, SharedDecision, timers,
     what_holds_of_a_ledger_holds_with_one_thing_more,
 };
 use scp_outbox::Outboxes;
 use scp_pending::{Pending, Ready};
 use scp_quorum::{QuorumSet, SaneSet};
-use scp_timers::{Timer, timers};
+use scp_slot::Timer;
 use scp_types::{ConnId, Fault, LINK_LIMIT, NodeId, PEER_LIMIT, Slot, Value};
 use scp_wire::{Bytes, Command, Inbound, LinkItem};
 use std::alloc::Global;

@@ -10,3 +10,4 @@ pub mod Outcomes
 pub mod Telling
 pub mod Judging
 pub mod Journaling
+pub mod InTurn

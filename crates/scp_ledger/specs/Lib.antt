@@ -14,4 +14,5 @@ pub mod Runs
 pub mod Journals
 pub mod By
 pub mod Kv
+pub mod Timers
 pub mod inside

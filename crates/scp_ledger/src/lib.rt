@@ -23,6 +23,7 @@ mod lists;
 mod quorum;
 mod shared;
 mod state;
+mod timers;
 mod took;
 mod window;
 
@@ -34,5 +35,6 @@ pub use laws::{
 pub use ledger::Ledger;
 pub use quorum::Quorum;
 pub use shared::{DECIDED_LIMIT, SharedDecision};
+pub use timers::timers;
 pub use took::{CommandFate, Onward, Outgoing, OutgoingList, Took};
 pub use window::LAST_SLOT;

@@ -22,7 +22,7 @@ use Rattle.scp_script.specs.scp_device.specs.declared.bad.WordFault.{WordFault}
 use Rattle.scp_script.specs.scp_device.specs.declared.bad.WordFault.TheVariants.{Bad}
 use Rattle.scp_script.specs.scp_device.specs.declared.bad.BadWord.{BadWord}
 use Rattle.scp_live_lines.specs.Results.{IfRefusal}
-use Rattle.scp_timers.specs.declared.running.Timer.{Timer}
+use Rattle.scp_slot.specs.declared.timers.Timer.{Timer}
 use Rattle.scp_live_lines.specs.declared.asked.Asked.TheVariants.{Event, Again, State, Report, Stand, Applied, Nothing}
 use Rattle.scp_live_lines.specs.Says.{Says}
 use Rattle.scp_live.specs.Live.{LiveView, IsTold, told_of}

@@ -6,7 +6,7 @@ use Rattle.sha2.specs.Sha256.{sha256}
 use Rattle.scp_types.specs.declared.fault.Fault.{Fault}
 use Rattle.scp_types.specs.declared.fault.Fault.TheVariants.{JournalFull, NoMemory}
 use Rattle.scp_types.specs.declared.names.Hash.{Hash}
-use Rattle.scp_timers.specs.declared.running.Timer.{Timer}
+use Rattle.scp_slot.specs.declared.timers.Timer.{Timer}
 use Rattle.scp_core.specs.declared.event.Event.{Event}
 use Rattle.scp_core.specs.declared.event.Reply.{Reply}
 use Rattle.scp_core.specs.History.{Exchange}

@@ -9,10 +9,9 @@ ghost use Rattle.scp_live_lines.specs.Timers.{changes};
 ghost use Rattle.scp_live.specs.Live.{IsTold, AreTimersOf, refusal, sent_line, new_fates, new_decisions, newly_applied};
 
 use crate::telling::{Marks, digest_from, tell_new, tell_refusal, tell_sent};
-use scp_core::{Event, KvDriver, Node};
+use scp_core::{Event, KvDriver, Node, Timer, timers};
 use scp_episode::{Played, play_with};
 use scp_live_lines::write_changes;
-use scp_timers::{Timer, timers};
 use scp_turn::Watch;
 use scp_types::{Fault, Hash};
 use std::alloc::Global;

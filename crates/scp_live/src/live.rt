@@ -11,9 +11,8 @@ ghost use Rattle.scp_episode.specs.Episode.{IsOfHost, finds_full};
 ghost use Rattle.scp_live.specs.Live.{IsTold, AreTimersOf};
 
 use crate::acting;
-use scp_core::{Config, Event, KvDriver, Node};
+use scp_core::{Config, Event, KvDriver, Node, Timer, timers};
 use scp_live_config::Named;
-use scp_timers::{Timer, timers};
 use scp_turn::Watch;
 use scp_types::{Fault, Hash, LINK_LIMIT};
 use std::alloc::Global;

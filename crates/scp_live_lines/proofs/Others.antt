@@ -17,8 +17,8 @@ use Rattle.scp_ledger.specs.declared.journal.Fate.TheVariants.{Taken, Dropped, C
 use Rattle.scp_ledger.specs.declared.journal.Origin.{Origin}
 use Rattle.scp_ledger.specs.declared.journal.Origin.TheVariants.{Machine, Named}
 use Rattle.scp_ledger.specs.declared.journal.Decision.{Decision}
-use Rattle.scp_timers.specs.declared.running.Timer.{Timer}
-use Rattle.scp_timers.specs.declared.running.Timer.TheVariants.{Round, Ballot}
+use Rattle.scp_ledger.specs.scp_slot.specs.declared.timers.Timer.{Timer}
+use Rattle.scp_ledger.specs.scp_slot.specs.declared.timers.Timer.TheVariants.{Round, Ballot}
 use Rattle.scp_core.specs.declared.event.Reply.{Reply}
 use Rattle.scp_core.specs.declared.event.Reply.TheVariants as reply
 use Rattle.scp_words.specs.Words.{verdict_word, cause_word, drop_word, hex_word}

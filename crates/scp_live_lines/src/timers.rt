@@ -2,7 +2,7 @@
 ghost use Rattle.std.specs.Prelude.{◌≡◌, ◌++◌, OnOk, codes, flat_map, string_bytes};
 ghost use Rattle.scp_live_lines.specs.Timers.{same_timer, runs_in, timer_line, missing_line, changes, running};
 
-use scp_timers::Timer;
+use scp_core::Timer;
 use std::alloc::AllocError;
 
 /// Whether two timers are the same.

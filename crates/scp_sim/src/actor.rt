@@ -1,7 +1,6 @@
 //! An actor is a node of the script, or the twin of a node that equivocates.
 
-use scp_core::{Event, Node, Reply};
-use scp_timers::Timer;
+use scp_core::{Event, Node, Reply, Timer};
 
 /// A timer that runs, and the time at which it fires.
 #[derive(Clone, Copy, Debug, PartialEq, Eq)]

@@ -3,8 +3,7 @@
 use crate::actor::Armed;
 use crate::due::Due;
 use crate::world::{SECOND, SimFault, World};
-use scp_core::{Command as LocalCommand, Node};
-use scp_timers::{Timer, timers};
+use scp_core::{Command as LocalCommand, Node, Timer, timers};
 
 impl<'a> World<'a> {
     /// Stops the timers of a node.

@@ -1,6 +1,6 @@
 //! What is due to happen, and when.
 
-use scp_timers::Timer;
+use scp_core::Timer;
 use scp_types::{Fault, Slot};
 use scp_wire::Bytes;
 use std::alloc::Global;

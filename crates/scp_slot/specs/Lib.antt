@@ -3,4 +3,5 @@ pub mod Judged
 pub mod Slot
 pub mod Takes
 pub mod Limits
+pub mod Timers
 pub mod inside

@@ -6,9 +6,13 @@ mod judging;
 mod machine;
 mod newest;
 mod output;
+mod quorum;
 mod state;
+mod timers;
 
 pub use machine::SlotMachine;
 pub use newest::Heard;
 pub use output::{Emitted, SlotInput, SlotOutput, Verdict};
+pub use quorum::has_quorum_at;
+pub use timers::{Timer, add_timers};
 pub use scp_ballot::Certified;

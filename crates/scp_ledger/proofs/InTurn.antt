@@ -1,8 +1,8 @@
 -- The timers of some slots, and of one more.
 use Rattle.std.proofs.Common.{◌≡◌, ◌+◌, ℕ, List, [], refl, add-one}
 use Rattle.scp_slot.specs.declared.machine.SlotMachine.{SlotMachine}
-use Rattle.scp_timers.specs.declared.running.Timer.{Timer}
-use Rattle.scp_timers.specs.Timers.{AreTimers, AreTimersIfSlot}
+use Rattle.scp_slot.specs.declared.timers.Timer.{Timer}
+use Rattle.scp_ledger.specs.Timers.{AreTimers, AreTimersIfSlot}
 
 pub timers_none : {D : Type 0} (machines : List (ℕ × SlotMachine D)) (lowest : ℕ) → AreTimers machines lowest 0 []
 unfolding AreTimers

@@ -13,9 +13,9 @@ use Rattle.scp_ballot_rules.specs.Owed.{counter_in}
 use Rattle.scp_ballot_rules.specs.Told.{ballots_on}
 use Rattle.scp_ballot_rules.proofs.Gathering.{Entries}
 use Rattle.scp_ballot_rules.proofs.Stepping.{refuted}
-use Rattle.scp_timers.specs.inside.Sets.{counted_from}
-use Rattle.scp_timers.proofs.Sets.{IsPuttingSets, passes_by, puts_set, putting_end, set_at, no_set_at, below, set_after}
-use Rattle.scp_timers.proofs.quorum.sets_from.Goals as goal
+use Rattle.scp_slot.specs.inside.Sets.{counted_from}
+use Rattle.scp_slot.proofs.Sets.{IsPuttingSets, passes_by, puts_set, putting_end, set_at, no_set_at, below, set_after}
+use Rattle.scp_slot.proofs.quorum.sets_from.Goals as goal
 
 pub loop-node-preserved : goal.loop-node-preserved
 loop-node-preserved c =

@@ -4,8 +4,8 @@ ghost use Rattle.scp_quorum.specs.Quorum.{set_of};
 ghost use Rattle.scp_vote.specs.Seen.{seen};
 ghost use Rattle.scp_vote.specs.declared.claim.StatementKind.TheVariants.{Balloting};
 ghost use Rattle.scp_ballot_rules.specs.Owed.{counter_in};
-ghost use Rattle.scp_timers.specs.Timers.{HasQuorumFrom};
-ghost use Rattle.scp_timers.specs.inside.Sets.{AreSetsFrom};
+ghost use Rattle.scp_slot.specs.Timers.{HasQuorumFrom};
+ghost use Rattle.scp_slot.specs.inside.Sets.{AreSetsFrom};
 
 use scp_ballot_rules::counter_of_pledges;
 use scp_quorum::{SaneSet, greatest_quorum};

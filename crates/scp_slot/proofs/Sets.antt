@@ -16,8 +16,8 @@ use Rattle.scp_vote.specs.Board.{Seen, HasQuorumOf, AllHave}
 use Rattle.scp_vote.proofs.Chain.{same_at, at_itself}
 use Rattle.scp_ballot_rules.specs.Owed.{counter_in}
 use Rattle.scp_ballot_rules.proofs.Gathering.{Entries}
-use Rattle.scp_timers.specs.Timers.{IsFrom, HasQuorumFrom}
-use Rattle.scp_timers.specs.inside.Sets.{set_from, counted_from, AreSetsFrom}
+use Rattle.scp_slot.specs.Timers.{IsFrom, HasQuorumFrom}
+use Rattle.scp_slot.specs.inside.Sets.{set_from, counted_from, AreSetsFrom}
 
 decided : (b : Bool) → (b ≡ true) ⊎ (b ≡ false)
 decided true = inl refl

@@ -1,14 +1,12 @@
--- Which timers run (the SCP draft, in this project's profile).
-use Rattle.std.specs.Prelude.{◌≡◌, ◌<◌, ◌≤◌, ◌+◌, ◌^◌, ◌⊎◌, ℕ, zero, suc, List, [], ◌∷◌, ◌++◌, length, Option, Some, None}
+-- Which timers of a slot run (the SCP draft, in this project's profile).
+use Rattle.std.specs.Prelude.{◌≡◌, ◌<◌, ◌≤◌, ◌⊎◌, ℕ, List, [], ◌∷◌, ◌++◌, length, Option, Some, None}
 use Rattle.scp_types.specs.declared.names.Slot.{Slot}
 use Rattle.scp_envelope.specs.declared.statement.Pledges.{Pledges}
 use Rattle.scp_vote.specs.Board.{Seen, HasQuorumOf}
 use Rattle.scp_ballot_rules.specs.Owed.{counter_in}
-use Rattle.scp_slot.specs.declared.machine.SlotMachine.{SlotMachine}
-use Rattle.scp_slot.specs.Slot.{SlotView, slot_view}
-use Rattle.scp_ledger.specs.Seen.{machine_at}
-use Rattle.scp_timers.specs.declared.running.Timer.{Timer}
-use Rattle.scp_timers.specs.declared.running.Timer.TheVariants.{Round, Ballot}
+use Rattle.scp_slot.specs.Slot.{SlotView}
+use Rattle.scp_slot.specs.declared.timers.Timer.{Timer}
+use Rattle.scp_slot.specs.declared.timers.Timer.TheVariants.{Round, Ballot}
 
 -- the statement's counter is this one or a higher one
 abbrev pub IsFrom : ℕ → Pledges → Type 0
@@ -47,27 +45,8 @@ AddsRound slot v old new = AddsWhere (RunsRound v) (Round slot v.nomination.roun
 abbrev pub AddsBallot : Slot → SlotView → List Timer → List Timer → Type 0
 AddsBallot slot v old new = AddsWhere (RunsBallot v) (Ballot slot (own_counter v.ballots.board)) old new
 
--- the timers of a slot with a machine are added: first that of its round
+-- the timers of a slot are added: first that of its round
 pub record AddsTimers (slot : Slot) (v : SlotView) (old new : List Timer) : Type 0 where
   pub mid : List Timer
   pub round : AddsRound slot v old mid
   pub ballot : AddsBallot slot v mid new
-
--- the timers of a slot are added; without a machine it has none
-abbrev pub AreTimersOf : {D : Type 0} → Slot → Option (SlotMachine D) → List Timer → List Timer → Type 0
-AreTimersOf slot None old new = new ≡ old
-AreTimersOf slot (Some m) old new = AddsTimers slot (slot_view m) old new
-
--- the timers of the slot of this number are added
-abbrev pub AreTimersAt : {D : Type 0} → List (ℕ × SlotMachine D) → ℕ → List Timer → List Timer → Type 0
-AreTimersAt machines slot old new = AreTimersOf (record { 0 = slot }) (machine_at machines slot) old new
-
--- if the slot's number is below 2 ^ 64, the slot's timers are added; otherwise nothing is
-pub record AreTimersIfSlot {D : Type 0} (machines : List (ℕ × SlotMachine D)) (slot : ℕ) (old new : List Timer) : Type 0 where
-  pub there : slot < 2 ^ 64 → AreTimersAt machines slot old new
-  pub none : 2 ^ 64 ≤ slot → new ≡ old
-
--- the timers of this many slots from the lowest one on: those of all but the last, and then those of the last
-unfoldable pub AreTimers : {D : Type 0} → List (ℕ × SlotMachine D) → ℕ → ℕ → List Timer → Type 0
-AreTimers machines lowest zero timers = timers ≡ []
-AreTimers machines lowest (suc k) timers = (before : List Timer) × AreTimers machines lowest k before × AreTimersIfSlot machines (lowest + k) before timers
