@@ -11,7 +11,7 @@ use Rattle.scp_envelope.specs.declared.statement.Statement.{Statement}
 use Rattle.scp_vote.specs.Board.{kind_of_pledges, KeepsOwn}
 use Rattle.scp_vote.specs.declared.claim.StatementKind.{StatementKind}
 use Rattle.scp_vote.specs.declared.claim.StatementKind.TheVariants.{Nomination, Balloting}
-use Rattle.scp_ballot.specs.Balloting as ballot
+use Rattle.scp_slot.specs.scp_ballot.specs.Balloting as ballot
 use Rattle.scp_slot.specs.declared.newest.Heard.{Heard as Kept}
 use Rattle.scp_slot.specs.declared.output.SlotInput.{SlotInput}
 use Rattle.scp_slot.specs.declared.output.SlotInput.TheVariants.{Propose, Round, Timer, Envelope}

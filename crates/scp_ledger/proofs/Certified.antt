@@ -16,8 +16,8 @@ use Rattle.scp_vote.specs.Board.{Seen, KeepsOwn, counted_of_other}
 use Rattle.scp_vote.specs.Claims.{AcceptsCommits}
 use Rattle.scp_vote.specs.declared.claim.StatementKind.TheVariants.{Balloting}
 use Rattle.scp_vote.proofs.Chain.{same_at, at_itself}
-use Rattle.scp_ballot.specs.declared.balloted.Certified.{Certified}
-use Rattle.scp_ballot.specs.Balloting as ballot
+use Rattle.scp_slot.specs.scp_ballot.specs.declared.balloted.Certified.{Certified}
+use Rattle.scp_slot.specs.scp_ballot.specs.Balloting as ballot
 use Rattle.scp_slot.specs.declared.newest.Heard.{Heard as Kept}
 use Rattle.scp_slot.specs.Slot.{SlotView, Shows, IsRunning}
 use Rattle.scp_ledger.specs.Ledger.{heard_of, heard_at}

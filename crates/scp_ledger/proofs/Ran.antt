@@ -17,8 +17,8 @@ use Rattle.scp_envelope.specs.declared.statement.Envelope.{Envelope as Enveloped
 use Rattle.scp_vote.specs.Board.{kind_of_pledges}
 use Rattle.scp_vote.specs.declared.claim.StatementKind.{StatementKind}
 use Rattle.scp_wire.specs.declared.message.Message.TheVariants.{Envelope}
-use Rattle.scp_ballot.specs.declared.balloted.Certified.{Certified}
-use Rattle.scp_ballot.specs.Balloting as ballot
+use Rattle.scp_slot.specs.scp_ballot.specs.declared.balloted.Certified.{Certified}
+use Rattle.scp_slot.specs.scp_ballot.specs.Balloting as ballot
 use Rattle.scp_slot.specs.declared.machine.SlotMachine.{SlotMachine}
 use Rattle.scp_slot.specs.declared.output.SlotInput.{SlotInput}
 use Rattle.scp_slot.specs.declared.output.SlotInput.TheVariants.{Propose, Round, Timer, Envelope as Hear}

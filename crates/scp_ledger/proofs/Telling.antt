@@ -6,7 +6,7 @@ use Rattle.scp_driver.specs.declared.driver.Level.{Level}
 use Rattle.scp_driver.specs.declared.driver.Level.TheVariants.{FullyValidated}
 use Rattle.scp_envelope.specs.declared.statement.Envelope.{Envelope as Enveloped}
 use Rattle.scp_envelope.specs.declared.statement.Pledges.{Pledges}
-use Rattle.scp_ballot.specs.Balloting.{HasBallot, HasCounter, own}
+use Rattle.scp_slot.specs.scp_ballot.specs.Balloting.{HasBallot, HasCounter, own}
 use Rattle.scp_slot.specs.declared.machine.SlotMachine.{SlotMachine}
 use Rattle.scp_slot.specs.declared.output.SlotInput.{SlotInput}
 use Rattle.scp_slot.specs.declared.output.SlotInput.TheVariants.{Propose, Round, Timer}

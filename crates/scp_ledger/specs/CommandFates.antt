@@ -7,7 +7,7 @@ use Rattle.scp_wire.specs.declared.link.Command.{Command}
 use Rattle.scp_wire.specs.declared.link.Command.TheVariants.{Propose, Round, Timer, Tick, Ask}
 use Rattle.scp_pending.specs.declared.ready.Ready.{Ready}
 use Rattle.scp_pending.specs.declared.ready.Ready.TheVariants as ready
-use Rattle.scp_ballot.specs.Balloting.{HasBallot}
+use Rattle.scp_slot.specs.scp_ballot.specs.Balloting.{HasBallot}
 use Rattle.scp_slot.specs.declared.machine.SlotMachine.{SlotMachine}
 use Rattle.scp_slot.specs.Slot.{SlotView, slot_view}
 use Rattle.scp_ledger.specs.declared.journal.Decision.{Decision}

@@ -17,7 +17,7 @@ ghost use Rattle.scp_ledger.specs.inside.Window.{IsWindow};
 ghost use Rattle.scp_ledger.specs.inside.Entering.{entries_of as entries_with};
 ghost use Rattle.scp_ledger.specs.Takes.{verdict_from as verdict_as, decision_of as decided_by, HasAscendingNodes};
 ghost use Rattle.scp_ledger.specs.inside.FateBy.{fate_by as fate_as};
-ghost use Rattle.scp_ballot.specs.Balloting.{HasCounter};
+ghost use Rattle.scp_slot.specs.scp_ballot.specs.Balloting.{HasCounter};
 ghost use Rattle.scp_vote.specs.Seen.{seen};
 ghost use Rattle.scp_vote.specs.declared.claim.StatementKind.TheVariants.{Balloting};
 

@@ -21,9 +21,9 @@ use Rattle.scp_pending.specs.Endings.{way, ways, commands_in, commands_of, passe
 use Rattle.scp_pending.specs.Linked.{IsOfLink, IsReadyOf}
 use Rattle.scp_pending.specs.Pends.{start_of as start_by}
 use Rattle.scp_pending.specs.Placing.{StandsAt}
-use Rattle.scp_ledger.specs.declared.journal.Asking.{Asking}
-use Rattle.scp_ledger.specs.Journals.{entry_of}
-use Rattle.scp_ledger.specs.Seen.{is_asked}
+use Rattle.scp_apply.specs.scp_ledger.specs.declared.journal.Asking.{Asking}
+use Rattle.scp_apply.specs.scp_ledger.specs.Journals.{entry_of}
+use Rattle.scp_apply.specs.scp_ledger.specs.Seen.{is_asked}
 use Rattle.scp_theorem.specs.Account.{Account, Ran}
 use Rattle.scp_theorem.specs.Fates.{conn_of, FateHasCause, ways_on}
 use Rattle.scp_theorem.specs.Kept.{start_of, leaving, AreJudgedInTurn}

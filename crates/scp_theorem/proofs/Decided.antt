@@ -8,10 +8,10 @@ use Rattle.std.proofs.lemmas.List.Sorted.{IsPermutation-append, IsPermutation-re
 use Rattle.scp_types.specs.declared.names.NodeId.{NodeId}
 use Rattle.scp_quorum.specs.QuorumTree.{QuorumTree}
 use Rattle.scp_driver.specs.declared.driver.Level.{Level}
-use Rattle.scp_ledger.specs.declared.journal.Decision.{Decision}
-use Rattle.scp_ledger.specs.Decisions.{IsFounded}
-use Rattle.scp_ledger.specs.Onwards.{decisions_on, decision_on}
-use Rattle.scp_ledger.specs.Verdicts.{link_of}
+use Rattle.scp_apply.specs.scp_ledger.specs.declared.journal.Decision.{Decision}
+use Rattle.scp_apply.specs.scp_ledger.specs.Decisions.{IsFounded}
+use Rattle.scp_apply.specs.scp_ledger.specs.Onwards.{decisions_on, decision_on}
+use Rattle.scp_apply.specs.scp_ledger.specs.Verdicts.{link_of}
 use Rattle.scp_apply.specs.Applier.{IsLater, next_of}
 use Rattle.scp_theorem.specs.Account.{Account, Ran}
 use Rattle.scp_theorem.specs.Kept.{AreDecided, AreApplied}

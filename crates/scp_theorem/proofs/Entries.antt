@@ -14,10 +14,10 @@ use Rattle.scp_pending.specs.Rules.{Settled}
 use Rattle.scp_pending.specs.Causes.{IsTaken, HasCause}
 use Rattle.scp_pending.specs.Endings.{Way, went, over, way_by, ways}
 use Rattle.scp_pending.specs.Linked.{IsReadyOf}
-use Rattle.scp_ledger.specs.declared.journal.Fate.{Fate}
-use Rattle.scp_ledger.specs.declared.journal.Fate.TheVariants.{Taken, Dropped, Closed}
-use Rattle.scp_ledger.specs.Journals.{Entry, taken, dropped, closed, entry_in, entry_of}
-use Rattle.scp_ledger.specs.Marks.{marks_of as marks_on}
+use Rattle.scp_apply.specs.scp_ledger.specs.declared.journal.Fate.{Fate}
+use Rattle.scp_apply.specs.scp_ledger.specs.declared.journal.Fate.TheVariants.{Taken, Dropped, Closed}
+use Rattle.scp_apply.specs.scp_ledger.specs.Journals.{Entry, taken, dropped, closed, entry_in, entry_of}
+use Rattle.scp_apply.specs.scp_ledger.specs.Marks.{marks_of as marks_on}
 use Rattle.scp_theorem.specs.Fates.{HasItsNumber, FateHasCause, conn_of, ways_on}
 
 -- the journal has one entry for each thing that was taken but the commands

@@ -22,7 +22,7 @@ use Rattle.scp_pending.specs.Endings.{Way, Exits, ways}
 use Rattle.scp_pending.specs.Line.{ready_mark, marks_of, HaveMessages, HasItsMessage, Accounts, held}
 use Rattle.scp_pending.specs.Queues.{is_open}
 use Rattle.scp_pending.specs.Rules.{Settled, settled_by}
-use Rattle.scp_ledger.specs.Marks.{marks_of as marks_on}
+use Rattle.scp_apply.specs.scp_ledger.specs.Marks.{marks_of as marks_on}
 use Rattle.scp_theorem.specs.Account.{Account, Ran}
 use Rattle.scp_theorem.specs.Fates.{Fates, HasItsNumber, ways_on}
 use Rattle.scp_theorem.specs.Kept.{start_of, leaving, slots_sent, line_sent, line_held, HasItsFates}

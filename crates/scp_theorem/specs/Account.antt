@@ -10,9 +10,9 @@ use Rattle.scp_wire.specs.Shape.{AreOfLink, never_open, of_peer}
 use Rattle.scp_pending.specs.declared.ready.Ready.{Ready}
 use Rattle.scp_pending.specs.Pends.{Pends}
 use Rattle.scp_pending.specs.Rules.{PendingView}
-use Rattle.scp_ledger.specs.declared.took.Onward.{Onward}
-use Rattle.scp_ledger.specs.Journals.{Journals}
-use Rattle.scp_ledger.specs.Seen.{LedgerView}
+use Rattle.scp_apply.specs.scp_ledger.specs.declared.took.Onward.{Onward}
+use Rattle.scp_apply.specs.scp_ledger.specs.Journals.{Journals}
+use Rattle.scp_apply.specs.scp_ledger.specs.Seen.{LedgerView}
 use Rattle.scp_apply.specs.Applier.{ApplierView}
 use Rattle.scp_apply.specs.Applies.{Applies}
 

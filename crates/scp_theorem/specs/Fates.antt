@@ -12,9 +12,9 @@ use Rattle.scp_pending.specs.Rules.{Settled}
 use Rattle.scp_pending.specs.Causes.{IsTaken, HasCause}
 use Rattle.scp_pending.specs.Endings.{Way, went, over, way_by}
 pub use Rattle.scp_pending.specs.Linked.{is_among, IsOfLink}
-use Rattle.scp_ledger.specs.declared.journal.Fate.{Fate}
-use Rattle.scp_ledger.specs.declared.journal.Fate.TheVariants.{Taken, Dropped, Closed}
-use Rattle.scp_ledger.specs.Marks.{marks_of as marks_on}
+use Rattle.scp_apply.specs.scp_ledger.specs.declared.journal.Fate.{Fate}
+use Rattle.scp_apply.specs.scp_ledger.specs.declared.journal.Fate.TheVariants.{Taken, Dropped, Closed}
+use Rattle.scp_apply.specs.scp_ledger.specs.Marks.{marks_of as marks_on}
 
 -- a taken message of the connection is the one with its number
 abbrev pub HasItsNumber : ConnId → List Message → Fate → Type 0

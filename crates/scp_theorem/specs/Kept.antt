@@ -29,15 +29,15 @@ use Rattle.scp_pending.specs.Messages.{AreParked}
 use Rattle.scp_pending.specs.Placing.{StandsAt}
 use Rattle.scp_pending.specs.Queues.{is_open}
 use Rattle.scp_pending.specs.Rules.{Settled, fresh, settled_by, released_by}
-use Rattle.scp_ledger.specs.declared.journal.Asking.{Asking}
-use Rattle.scp_ledger.specs.declared.journal.TheConstants.{JOURNAL_LIMIT}
-use Rattle.scp_ledger.specs.Decisions.{OnePerSlot, AreInWindow, IsFounded, HasItsDecision, IsLowest}
-use Rattle.scp_ledger.specs.Journals.{entry_in, entry_of}
-use Rattle.scp_ledger.specs.Marks.{marks_of as marks_on}
-use Rattle.scp_ledger.specs.Onwards.{decisions_on}
-use Rattle.scp_ledger.specs.Runs.{Taking, things, nothing_taken, Leads, stood_by, verdict_in, verdict_by, AreJudged}
-use Rattle.scp_ledger.specs.Seen.{is_asked}
-use Rattle.scp_ledger.specs.Verdicts.{HasItsSet, link_of}
+use Rattle.scp_apply.specs.scp_ledger.specs.declared.journal.Asking.{Asking}
+use Rattle.scp_apply.specs.scp_ledger.specs.declared.journal.TheConstants.{JOURNAL_LIMIT}
+use Rattle.scp_apply.specs.scp_ledger.specs.Decisions.{OnePerSlot, AreInWindow, IsFounded, HasItsDecision, IsLowest}
+use Rattle.scp_apply.specs.scp_ledger.specs.Journals.{entry_in, entry_of}
+use Rattle.scp_apply.specs.scp_ledger.specs.Marks.{marks_of as marks_on}
+use Rattle.scp_apply.specs.scp_ledger.specs.Onwards.{decisions_on}
+use Rattle.scp_apply.specs.scp_ledger.specs.Runs.{Taking, things, nothing_taken, Leads, stood_by, verdict_in, verdict_by, AreJudged}
+use Rattle.scp_apply.specs.scp_ledger.specs.Seen.{is_asked}
+use Rattle.scp_apply.specs.scp_ledger.specs.Verdicts.{HasItsSet, link_of}
 use Rattle.scp_apply.specs.Applied.{AreInOrder}
 use Rattle.scp_apply.specs.Applier.{next_of}
 use Rattle.scp_theorem.specs.Account.{Account, Ran}

@@ -5,8 +5,8 @@ use Rattle.scp_quorum.specs.QuorumTree.{QuorumTree}
 use Rattle.scp_driver.specs.declared.driver.Level.{Level}
 use Rattle.scp_pending.specs.Pends.{Pends}
 use Rattle.scp_pending.specs.Rules.{PendingView}
-use Rattle.scp_ledger.specs.Journals.{Journals}
-use Rattle.scp_ledger.specs.Seen.{LedgerView}
+use Rattle.scp_apply.specs.scp_ledger.specs.Journals.{Journals}
+use Rattle.scp_apply.specs.scp_ledger.specs.Seen.{LedgerView}
 use Rattle.scp_apply.specs.Applier.{ApplierView}
 use Rattle.scp_apply.specs.Applies.{Applies}
 use Rattle.scp_theorem.specs.Account.{Account, Ran}

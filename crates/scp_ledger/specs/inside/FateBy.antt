@@ -1,6 +1,6 @@
 -- What became of a command, by its verdict; nothing here need be believed.
 use Rattle.std.specs.Prelude.{◌≡◌, Option, Some, None}
-use Rattle.scp_ballot.specs.Balloting.{HasBallot}
+use Rattle.scp_slot.specs.scp_ballot.specs.Balloting.{HasBallot}
 use Rattle.scp_slot.specs.declared.machine.SlotMachine.{SlotMachine}
 use Rattle.scp_slot.specs.Slot.{slot_view}
 use Rattle.scp_ledger.specs.declared.journal.Verdict.{Verdict}

@@ -3,7 +3,7 @@ use Rattle.std.specs.Prelude.{IsTrue, IsSomeAnd, ◌↔◌}
 use Rattle.scp_vote.specs.Seen.{seen}
 use Rattle.scp_vote.specs.declared.board.Board.{Board}
 use Rattle.scp_vote.specs.declared.claim.StatementKind.TheVariants.{Balloting}
-use Rattle.scp_ballot.specs.Balloting.{Ballots, HasBallot, HasCounter}
+use Rattle.scp_slot.specs.scp_ballot.specs.Balloting.{Ballots, HasBallot, HasCounter}
 use Rattle.scp_ledger.specs.Seen.{machine_at}
 use Rattle.scp_ledger.proofs.Telling.{idle_some}
 use Rattle.scp_ledger.proofs.state.State.idle_timer.Goals as goal
