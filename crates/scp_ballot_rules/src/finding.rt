@@ -9,8 +9,8 @@ ghost use Rattle.scp_ballot_rules.specs.Told.{ballots_on};
 ghost use Rattle.scp_ballot_rules.specs.inside.Told.{Reached};
 ghost use Rattle.scp_ballot_rules.specs.inside.Finding.{IsWithin, IsGreatest, Betters};
 
-use crate::told::{Stage, reached_prepared};
 use crate::copy_some;
+use crate::told::{Stage, reached_prepared};
 use scp_types::{Ballot, Fault, SharedValue};
 use scp_vote::Board;
 

@@ -14,5 +14,5 @@ pub use machine::SlotMachine;
 pub use newest::Heard;
 pub use output::{Emitted, SlotInput, SlotOutput, Verdict};
 pub use quorum::has_quorum_at;
-pub use timers::{Timer, add_timers};
 pub use scp_ballot::Certified;
+pub use timers::{Timer, add_timers};
