@@ -15,9 +15,9 @@ use Rattle.scp_outbox.specs.Sent.{statement_of, IsStep, AreNewer}
 use Rattle.scp_outbox.specs.Waiting.{Owes}
 use Rattle.scp_ledger.specs.declared.journal.Decision.{Decision}
 use Rattle.scp_ledger.specs.Seen.{LedgerView}
-use Rattle.scp_grounds.specs.Grounds.{Who}
-use Rattle.scp_grounds.proofs.Basics.{none_some}
-use Rattle.scp_grounds.proofs.Telling.{none_newer}
+use Rattle.scp_theorem.specs.Grounds.{Who}
+use Rattle.scp_theorem.proofs.Basics.{none_some}
+use Rattle.scp_theorem.proofs.Telling.{none_newer}
 use Rattle.scp_core.specs.declared.config.Config.{Config}
 use Rattle.scp_core.specs.declared.event.Reply.{Reply}
 use Rattle.scp_core.specs.declared.event.Reply.TheVariants.{Failed}

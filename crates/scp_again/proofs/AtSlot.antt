@@ -16,9 +16,9 @@ use Rattle.scp_slot.specs.Slot.{slot_view}
 use Rattle.scp_ledger.specs.declared.journal.Decision.{Decision}
 use Rattle.scp_ledger.specs.Decisions.{is_decided}
 use Rattle.scp_ledger.specs.Seen.{LedgerView, machine_at}
-use Rattle.scp_grounds.specs.Grounds.{Who}
-use Rattle.scp_grounds.proofs.Basics.{none_some, some_same, which, at_is}
-use Rattle.scp_grounds.proofs.Machines.{said, AreMine, IsBehind, decided_then}
+use Rattle.scp_theorem.specs.Grounds.{Who}
+use Rattle.scp_theorem.proofs.Basics.{none_some, some_same, which, at_is}
+use Rattle.scp_theorem.proofs.Machines.{said, AreMine, IsBehind, decided_then}
 use Rattle.scp_again.proofs.Lists.{there_decided, still_undecided}
 use Rattle.scp_again.proofs.Current.{true_false, IsOwnIf, IsOwnAt, HasDecision, HasKinds, IsWell, IsSaid, AtMachine, IsEnded, IsLast}
 

@@ -20,7 +20,7 @@ use Rattle.scp_outbox.specs.Handing.{PutsAll}
 use Rattle.scp_outbox.specs.Sent.{statement_of, IsStep}
 use Rattle.scp_outbox.specs.Waiting.{Owes}
 use Rattle.scp_outbox.specs.Sending.{PutsKeepOwes}
-use Rattle.scp_grounds.proofs.Basics.{which, none_some, some_same}
+use Rattle.scp_theorem.proofs.Basics.{which, none_some, some_same}
 use Rattle.scp_again.proofs.Current.{true_false, slots_are, kinds_are, alike}
 use Rattle.scp_again.proofs.Put.{IsApart}
 

@@ -20,9 +20,9 @@ use Rattle.scp_ledger.specs.declared.journal.Origin.{Origin}
 use Rattle.scp_ledger.specs.declared.journal.Origin.TheVariants.{Machine, Named}
 use Rattle.scp_ledger.specs.Decisions.{is_decided}
 use Rattle.scp_ledger.specs.Seen.{LedgerView, machine_at}
-use Rattle.scp_grounds.specs.Grounds.{Who}
-use Rattle.scp_grounds.proofs.Basics.{true_isnt, and_first, and_second, some_same}
-use Rattle.scp_grounds.proofs.Machines.{said, AreMine, IsBehind}
+use Rattle.scp_theorem.specs.Grounds.{Who}
+use Rattle.scp_theorem.proofs.Basics.{true_isnt, and_first, and_second, some_same}
+use Rattle.scp_theorem.proofs.Machines.{said, AreMine, IsBehind}
 use Rattle.scp_again.proofs.Lists.{there_decided}
 
 -- ---- statements of one slot and kind

@@ -28,7 +28,7 @@ use Rattle.scp_slot.specs.declared.output.SlotOutput.{SlotOutput}
 use Rattle.scp_slot.specs.declared.output.Verdict.{Verdict}
 use Rattle.scp_slot.specs.Slot.{SlotView}
 use Rattle.scp_slot.specs.Takes as slot
-use Rattle.scp_grounds.proofs.Basics.{some_there, none_some}
+use Rattle.scp_theorem.proofs.Basics.{some_there, none_some}
 use Rattle.scp_again.proofs.Current.{IsOpenBallot}
 
 -- the EXTERNALIZE that is emitted

@@ -14,8 +14,8 @@ use Rattle.scp_outbox.specs.Sent.{statement_of, IsStep, AreNewer}
 use Rattle.scp_outbox.specs.Waiting.{Owes}
 use Rattle.scp_outbox.specs.Sending.{PutsKeepOwes, GivesKeepOwes}
 use Rattle.scp_ledger.specs.Seen.{LedgerView}
-use Rattle.scp_grounds.specs.Grounds.{Who}
-use Rattle.scp_grounds.proofs.Basics.{some_same}
+use Rattle.scp_theorem.specs.Grounds.{Who}
+use Rattle.scp_theorem.proofs.Basics.{some_same}
 use Rattle.scp_again.specs.Ascending.{IsNoOlder}
 use Rattle.scp_again.proofs.Current.{IsWell, IsSaid, IsCurrent, IsLast, current_said, last_is_current}
 use Rattle.scp_again.proofs.Put.{ArePut, IsFresh}

@@ -7,7 +7,7 @@ use Rattle.std.proofs.lemmas.List.Elements.{All-nil, All-cons, All-tail, All-app
 use Rattle.std.proofs.lemmas.List.Kept.{AllPairs-cons}
 use Rattle.scp_ledger.specs.declared.journal.Decision.{Decision}
 use Rattle.scp_ledger.specs.Decisions.{is_at, is_decided}
-use Rattle.scp_grounds.proofs.Basics.{true_isnt}
+use Rattle.scp_theorem.proofs.Basics.{true_isnt}
 
 -- ---- pairs
 

@@ -13,10 +13,10 @@ use Rattle.scp_outbox.specs.Sent.{statement_of}
 use Rattle.scp_slot.specs.declared.output.Emitted.{Emitted}
 use Rattle.scp_ledger.specs.Seen.{LedgerView}
 use Rattle.scp_ledger.specs.Takes.{to_all, to_peers}
-use Rattle.scp_grounds.specs.Grounds.{Who}
-use Rattle.scp_grounds.specs.Handed.{handed_by}
-use Rattle.scp_grounds.proofs.Basics.{none_some, some_same, which}
-use Rattle.scp_grounds.proofs.Telling.{told}
+use Rattle.scp_theorem.specs.Grounds.{Who}
+use Rattle.scp_theorem.specs.Handed.{handed_by}
+use Rattle.scp_theorem.proofs.Basics.{none_some, some_same, which}
+use Rattle.scp_theorem.proofs.Telling.{told}
 use Rattle.scp_again.proofs.Lists.{pairs_none, all_one}
 use Rattle.scp_again.proofs.Current.{true_false, kinds_are, IsSaid, IsLast}
 

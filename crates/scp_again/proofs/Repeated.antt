@@ -17,9 +17,9 @@ use Rattle.scp_ledger.specs.declared.journal.Decision.{Decision}
 use Rattle.scp_ledger.specs.declared.journal.Origin.{Origin}
 use Rattle.scp_ledger.specs.declared.journal.Origin.TheVariants.{Machine, Named}
 use Rattle.scp_ledger.specs.Seen.{LedgerView, machine_at, is_asked}
-use Rattle.scp_grounds.specs.Grounds.{Who}
-use Rattle.scp_grounds.proofs.Basics.{none_some, some_same}
-use Rattle.scp_grounds.proofs.Machines.{said}
+use Rattle.scp_theorem.specs.Grounds.{Who}
+use Rattle.scp_theorem.proofs.Basics.{none_some, some_same}
+use Rattle.scp_theorem.proofs.Machines.{said}
 use Rattle.scp_again.specs.Again.{enveloped, own_of, decided_again, own_message, own_messages, emitted_by, asked_for, again_at, slots_again, again_of}
 use Rattle.scp_again.proofs.Lists.{all_flat, all_one, dropped_is_there}
 use Rattle.scp_again.proofs.Current.{IsOwnOf, IsOwnAt, HasKinds, IsWell, IsCurrent, open_is_ballot}

@@ -30,11 +30,11 @@ use Rattle.scp_ledger.specs.declared.took.Outgoing.{Outgoing}
 use Rattle.scp_ledger.specs.declared.took.Took.{Took}
 use Rattle.scp_ledger.specs.Seen.{LedgerView, machine_at}
 use Rattle.scp_ledger.specs.Takes.{IsMachineFor, decision_of, RunsAt}
-use Rattle.scp_grounds.specs.Grounds.{Who, IsDecided, IsOwnOf as IsEnvelopeOf}
-use Rattle.scp_grounds.specs.Handed.{handed_by}
-use Rattle.scp_grounds.proofs.Basics.{none_some, some_same, there_some}
-use Rattle.scp_grounds.proofs.Emitted.{IsTold, IsMine, Says, says}
-use Rattle.scp_grounds.proofs.Machines.{said, MayTell, Ran, ran}
+use Rattle.scp_theorem.specs.Grounds.{Who, IsDecided, IsOwnOf as IsEnvelopeOf}
+use Rattle.scp_theorem.specs.Handed.{handed_by}
+use Rattle.scp_theorem.proofs.Basics.{none_some, some_same, there_some}
+use Rattle.scp_theorem.proofs.Emitted.{IsTold, IsMine, Says, says}
+use Rattle.scp_theorem.proofs.Machines.{said, MayTell, Ran, ran}
 use Rattle.scp_again.proofs.Lists.{any_is_there}
 use Rattle.scp_again.proofs.Current.{true_false, alike, IsOwnOf, IsOwnIf, IsOwnAt, HasDecision, IsOpenBallot, HasKinds, IsWell, AtMachine, IsLast}
 use Rattle.scp_again.proofs.Ending.{ends}

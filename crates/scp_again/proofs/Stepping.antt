@@ -28,10 +28,10 @@ use Rattle.scp_ledger.specs.declared.took.Onward.TheVariants.{Decided, Asked}
 use Rattle.scp_ledger.specs.declared.took.Outgoing.{Outgoing}
 use Rattle.scp_apply.specs.Applied.{value_of}
 use Rattle.scp_apply.specs.Applier.{ApplierView, Takes}
-use Rattle.scp_grounds.specs.Grounds.{Who}
-use Rattle.scp_grounds.specs.Handed.{messages_for, handed_by, out_of}
-use Rattle.scp_grounds.proofs.Basics.{there_is, some_same, true_isnt}
-use Rattle.scp_grounds.proofs.Fit.{AllOut, all_none, all_for}
+use Rattle.scp_theorem.specs.Grounds.{Who}
+use Rattle.scp_theorem.specs.Handed.{messages_for, handed_by, out_of}
+use Rattle.scp_theorem.proofs.Basics.{there_is, some_same, true_isnt}
+use Rattle.scp_theorem.proofs.Fit.{AllOut, all_none, all_for}
 use Rattle.scp_core.specs.declared.event.Event.{Event}
 use Rattle.scp_core.specs.declared.event.Event.TheVariants.{Open, Send, Close, Local, ReaderTake, ReaderPut, PendTake, PendPut, SlotTake, SlotPut, ApplyTake, Drain}
 use Rattle.scp_core.specs.declared.event.Reply.{Reply}

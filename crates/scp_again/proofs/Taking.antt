@@ -30,11 +30,11 @@ use Rattle.scp_ledger.specs.Decisions.{is_decided, named_by}
 use Rattle.scp_ledger.specs.Seen.{LedgerView, machine_at}
 use Rattle.scp_ledger.specs.Takes.{RunsAt, Passes, Decides, Forwards, Asks, Commands, TakesAsk, TakesCommand, TakesMessage}
 use Rattle.scp_ledger.specs.Verdicts.{IsRecordVerdict, link_of}
-use Rattle.scp_grounds.specs.Grounds.{Who}
-use Rattle.scp_grounds.specs.Handed.{handed_by}
-use Rattle.scp_grounds.proofs.Basics.{none_some, some_same, which}
-use Rattle.scp_grounds.proofs.Fit.{AllOut, all_none, all_for}
-use Rattle.scp_grounds.proofs.Ledgers.{LedgerStep, ledger_step}
+use Rattle.scp_theorem.specs.Grounds.{Who}
+use Rattle.scp_theorem.specs.Handed.{handed_by}
+use Rattle.scp_theorem.proofs.Basics.{none_some, some_same, which}
+use Rattle.scp_theorem.proofs.Fit.{AllOut, all_none, all_for}
+use Rattle.scp_theorem.proofs.Ledgers.{LedgerStep, ledger_step}
 use Rattle.scp_again.proofs.Current.{IsOwnIf, HasDecision, IsWell, IsSaid, IsLast}
 use Rattle.scp_again.proofs.AtSlot.{IsOver, IsAtSlot, well_then, said_then, last_then}
 use Rattle.scp_again.proofs.Put.{ArePut, put_quiet}

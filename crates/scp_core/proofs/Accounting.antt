@@ -15,7 +15,7 @@ use Rattle.scp_core.specs.Ledger.{upcoming_of}
 use Rattle.scp_core.specs.Node.{LinkView, NodeView}
 use Rattle.scp_core.proofs.Below.{ReadLaws, Laws}
 use Rattle.scp_core.proofs.Links.{whole, front}
-use Rattle.scp_grounds.proofs.Basics.{there_is}
+use Rattle.scp_theorem.proofs.Basics.{there_is}
 use Rattle.scp_core.proofs.Queues.{within}
 
 module _ {D : Type 0} where

@@ -25,7 +25,7 @@ use Rattle.scp_apply.specs.Applier.{ApplierView}
 use Rattle.scp_apply.specs.Applier.{Takes as ApplierTakes}
 use Rattle.scp_core.specs.inside.Decider.{DeciderView, Decides, AppliesNext, Applies, Keeps}
 use Rattle.scp_core.specs.inside.Draining.{Draws, IsSpelt, empty_reply}
-use Rattle.scp_grounds.proofs.Basics.{there_is}
+use Rattle.scp_theorem.proofs.Basics.{there_is}
 use Rattle.scp_core.proofs.Queues.{within}
 use Rattle.scp_core.specs.inside.Links.{Opens, Sends, Closes, Reads, Gives, OnLinks, Puts}
 

@@ -2,8 +2,8 @@
 use Rattle.std.proofs.Common.{◌≡◌, false, List, [], ◌∷◌, refl, sym, ◌∙◌, inl, inr, ◌⊎◌}
 use Rattle.std.proofs.lemmas.List.{append-nil}
 use Rattle.scp_driver.specs.Driver.{Says}
-use Rattle.scp_headline.specs.Books.{LedgerKeepsHeadline}
-use Rattle.scp_headline.specs.Headline.{Headline}
+use Rattle.scp_theorem.specs.Books.{LedgerKeepsHeadline}
+use Rattle.scp_theorem.specs.Headline.{Headline}
 use Rattle.scp_core.specs.Headline.{books_at, HoldsHeadline, LedgerGivesHeadline}
 use Rattle.scp_core.specs.History.{Exchange}
 use Rattle.scp_core.specs.Ledger.{FailedAfter}

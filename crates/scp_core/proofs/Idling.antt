@@ -6,7 +6,7 @@ use Rattle.scp_quorum.specs.QuorumTree.{QuorumTree}
 use Rattle.scp_pending.specs.Causes.{IsSettledBy}
 use Rattle.scp_pending.specs.Pends.{IsSettled, start_of as started}
 use Rattle.scp_pending.specs.Rules.{Settled, fresh, settled_by}
-use Rattle.scp_grounds.specs.Grounds.{start_of}
+use Rattle.scp_theorem.specs.Grounds.{start_of}
 use Rattle.scp_core.specs.declared.config.Config.{Config}
 use Rattle.scp_core.specs.declared.event.Event.TheVariants.{PendTake}
 use Rattle.scp_core.specs.declared.event.Reply.TheVariants.{Idle}

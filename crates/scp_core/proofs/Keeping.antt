@@ -3,7 +3,7 @@ use Rattle.std.proofs.Common.{◌≡◌, ℕ, true, false, List, ◌++◌, refl,
 use Rattle.scp_driver.specs.Driver.{Says}
 use Rattle.scp_wire.specs.declared.link.Inbound.{Inbound}
 use Rattle.scp_theorem.specs.Kept.{KeepsLedger}
-use Rattle.scp_grounds.specs.Grounds.{IsSentOut}
+use Rattle.scp_theorem.specs.Grounds.{IsSentOut}
 use Rattle.scp_core.specs.declared.config.Config.{Config}
 use Rattle.scp_core.specs.Flow.{Flows}
 use Rattle.scp_core.specs.History.{Exchange, past_of, nothing_heard}

@@ -12,7 +12,7 @@ use Rattle.scp_wire.specs.Fitting.{IsFitting}
 use Rattle.scp_outbox.specs.Handing.{PutsAll, HandsOut, to_link, to_each}
 use Rattle.scp_ledger.specs.declared.took.Outgoing.{Outgoing}
 use Rattle.scp_ledger.specs.declared.took.Outgoing.TheVariants.{ToAll, To}
-use Rattle.scp_grounds.specs.Handed.{handed_by, out_of}
+use Rattle.scp_theorem.specs.Handed.{handed_by, out_of}
 use Rattle.scp_core.specs.declared.event.Event.{Event}
 use Rattle.scp_core.specs.declared.event.Event.TheVariants.{ReaderTake, ReaderPut, PendTake, PendPut, SlotTake, SlotPut, ApplyTake, Drain}
 use Rattle.scp_core.specs.declared.event.Reply.{Reply}

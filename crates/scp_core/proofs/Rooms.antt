@@ -12,7 +12,7 @@ use Rattle.scp_core.specs.Flow.{Flows, LinkFlows}
 use Rattle.scp_core.specs.Theorem.{LedgerTheorem}
 use Rattle.scp_core.specs.Room.{opens_in, LinkHasRoom, RunningHasRoom, FailedHasRoom, HasRoom, TheoremGivesRoom}
 use Rattle.scp_core.proofs.Failing.{Failure, failure_of}
-use Rattle.scp_grounds.proofs.Basics.{there_is}
+use Rattle.scp_theorem.proofs.Basics.{there_is}
 use Rattle.scp_core.proofs.Queues.{within}
 
 lives_from : (t : Tail) (items : List LinkItem) → (fold goes t items).life ≡ t.life + opens_in items

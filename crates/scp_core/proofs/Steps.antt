@@ -24,8 +24,8 @@ use Rattle.scp_wire.specs.declared.message.Message.{Message}
 use Rattle.scp_apply.specs.Applier.{ApplierView, IsApplier, IsRunning}
 use Rattle.scp_apply.specs.Applier.{Takes as ApplierTakes}
 use Rattle.scp_ledger.specs.declared.took.Onward.{Onward}
-use Rattle.scp_grounds.proofs.Basics.{there_is, peer_is}
-use Rattle.scp_grounds.proofs.Places.{same_node-is}
+use Rattle.scp_theorem.proofs.Basics.{there_is, peer_is}
+use Rattle.scp_theorem.proofs.Places.{same_node-is}
 use Rattle.scp_core.specs.declared.event.Event.{Event}
 use Rattle.scp_core.specs.declared.event.Event.TheVariants.{Open, Send, Close, Local, ReaderTake, ReaderPut, PendTake, PendPut, SlotTake, SlotPut, ApplyTake, Drain}
 use Rattle.scp_core.proofs.Deciding.{journals_step, applies_step, first_stays}

@@ -12,7 +12,7 @@ use Rattle.scp_ledger.specs.declared.took.Outgoing.{Outgoing}
 use Rattle.scp_pending.specs.declared.ready.Ready.{Ready}
 use Rattle.scp_pending.specs.Pends.{Pends}
 use Rattle.scp_pending.specs.Rules.{PendingView, reply as reply_to}
-use Rattle.scp_grounds.specs.Handed.{out_of}
+use Rattle.scp_theorem.specs.Handed.{out_of}
 use Rattle.scp_core.specs.declared.event.Event.{Event}
 use Rattle.scp_core.specs.declared.event.Event.TheVariants.{PendTake, SlotTake, ApplyTake, Drain}
 use Rattle.scp_core.specs.declared.event.Reply.{Reply}

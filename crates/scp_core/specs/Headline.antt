@@ -1,8 +1,8 @@
 -- The headline of a node: of one that runs, and of one that failed.
 use Rattle.std.specs.Prelude.{◌≡◌, true, List, [], ◌++◌, ◌⊎◌}
 use Rattle.scp_driver.specs.Driver.{Says}
-use Rattle.scp_headline.specs.Books.{books_of}
-use Rattle.scp_headline.specs.Headline.{Books, Headline}
+use Rattle.scp_theorem.specs.Books.{books_of}
+use Rattle.scp_theorem.specs.Headline.{Books, Headline}
 use Rattle.scp_core.specs.History.{Exchange}
 use Rattle.scp_core.specs.Ledger.{account_of, HoldsLedger}
 use Rattle.scp_core.specs.Node.{NodeView}

@@ -6,7 +6,7 @@ use Rattle.scp_wire.specs.declared.link.Inbound.{Inbound}
 use Rattle.scp_wire.specs.LinkReading.{readings}
 use Rattle.scp_theorem.specs.Account.{Account}
 use Rattle.scp_theorem.specs.Kept.{KeepsLedger}
-use Rattle.scp_grounds.specs.Grounds.{IsSentOut}
+use Rattle.scp_theorem.specs.Grounds.{IsSentOut}
 use Rattle.scp_core.specs.declared.event.Event.{Event}
 use Rattle.scp_core.specs.declared.event.Reply.{Reply}
 use Rattle.scp_core.specs.declared.event.Reply.TheVariants.{Failed, JournalFull, NoMemory}

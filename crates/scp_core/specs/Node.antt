@@ -32,7 +32,7 @@ use Rattle.scp_ledger.specs.Ledger.{IsLedger}
 use Rattle.scp_ledger.specs.Takes.{adds_entry}
 use Rattle.scp_apply.specs.Applier.{ApplierView, IsApplier, IsRunning}
 use Rattle.scp_apply.specs.Applier.{Takes as Applies}
-use Rattle.scp_grounds.specs.Handed.{handed_by}
+use Rattle.scp_theorem.specs.Handed.{handed_by}
 use Rattle.scp_core.specs.declared.config.Config.{Config}
 use Rattle.scp_core.specs.declared.event.Event.{Event}
 use Rattle.scp_core.specs.declared.event.Event.TheVariants.{Open, Send, Close, Local, ReaderTake, ReaderPut, PendTake, PendPut, SlotTake, SlotPut, ApplyTake, Drain}

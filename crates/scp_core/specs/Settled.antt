@@ -3,7 +3,7 @@ use Rattle.std.specs.Prelude.{◌≡◌}
 use Rattle.scp_driver.specs.Driver.{Says}
 use Rattle.scp_pending.specs.Rules.{PendingView, settled_by}
 use Rattle.scp_pending.specs.Causes.{IsSettledBy}
-use Rattle.scp_grounds.specs.Grounds.{start_of}
+use Rattle.scp_theorem.specs.Grounds.{start_of}
 use Rattle.scp_core.specs.declared.config.Config.{Config}
 use Rattle.scp_core.specs.declared.event.Event.TheVariants.{PendTake}
 use Rattle.scp_core.specs.declared.event.Reply.TheVariants.{Idle}

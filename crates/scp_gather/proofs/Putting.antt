@@ -16,7 +16,7 @@ use Rattle.scp_ledger.specs.Seen.{LedgerView}
 use Rattle.scp_ledger.specs.Onwards.{requests_on}
 use Rattle.scp_ledger.specs.By.{LeadsBy}
 use Rattle.scp_ledger.specs.Runs.{Taking, things}
-use Rattle.scp_grounds.specs.Handed.{replies_from}
+use Rattle.scp_theorem.specs.Handed.{replies_from}
 use Rattle.scp_ends.specs.Ends.{Sender}
 use Rattle.scp_ends.specs.Order.{values}
 use Rattle.scp_workers.specs.Working.{sent_by}

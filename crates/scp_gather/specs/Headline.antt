@@ -6,8 +6,8 @@ use Rattle.scp_quorum.specs.QuorumTree.{QuorumTree}
 use Rattle.scp_wire.specs.declared.carried.Carried.{Carried}
 use Rattle.scp_ledger.specs.declared.journal.Decision.{Decision}
 use Rattle.scp_ledger.specs.declared.journal.Fate.{Fate}
-use Rattle.scp_headline.specs.Books.{books_of}
-use Rattle.scp_headline.specs.Headline.{Books, Headline}
+use Rattle.scp_theorem.specs.Books.{books_of}
+use Rattle.scp_theorem.specs.Headline.{Books, Headline}
 use Rattle.scp_gather.specs.Gathered.{account_gathered}
 use Rattle.scp_gather.specs.Left.{Left}
 use Rattle.scp_gather.specs.Report.{IsReportOf}

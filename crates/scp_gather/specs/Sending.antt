@@ -4,8 +4,8 @@ use Rattle.scp_driver.specs.Driver.{Says}
 use Rattle.scp_types.specs.declared.names.NodeId.{NodeId}
 use Rattle.scp_quorum.specs.QuorumTree.{QuorumTree}
 use Rattle.scp_ledger.specs.declared.took.Outgoing.{Outgoing}
-use Rattle.scp_grounds.specs.Grounds.{Grounds}
-use Rattle.scp_grounds.specs.Laws.{AreHandedOut}
+use Rattle.scp_theorem.specs.Grounds.{Grounds}
+use Rattle.scp_theorem.specs.Laws.{AreHandedOut}
 use Rattle.scp_ends.specs.Order.{values}
 use Rattle.scp_workers.specs.Working.{HavePut}
 use Rattle.scp_gather.specs.Left.{Left}

@@ -12,7 +12,7 @@ ghost use Rattle.scp_pending.specs.Messages.{AreParked, message_cmp};
 ghost use Rattle.scp_pending.specs.Pends.{Pends};
 ghost use Rattle.scp_ends.specs.Links.{LinkEnd};
 ghost use Rattle.scp_apply.specs.Applied.{made_of};
-ghost use Rattle.scp_headline.specs.Headline.{Headline};
+ghost use Rattle.scp_theorem.specs.Headline.{Headline};
 ghost use Rattle.scp_workers.specs.Reading.{ReaderEnd};
 ghost use Rattle.scp_gather.specs.Node.{IsNode, IsReadOut, EndWell};
 ghost use Rattle.scp_gather.specs.Headline.{books_reported};

@@ -3,7 +3,7 @@
 use Rattle.std.specs.Prelude.{ℕ, ◌+◌, ◌<◌, ◌≡◌, List, [], get_or, length}
 use Rattle.scp_kv.specs.State.{fold_of}
 use Rattle.scp_apply.specs.Applied.{values_of}
-use Rattle.scp_headline.specs.Headline.{Headline}
+use Rattle.scp_theorem.specs.Headline.{Headline}
 use Rattle.scp_network.specs.scp_core.specs.Headline.{HoldsHeadline}
 use Rattle.scp_network.specs.scp_core.specs.Kv.{NodeView}
 use Rattle.scp_network.specs.Heard.{Heard, Nodes, past_at}

@@ -2,3 +2,9 @@ pub mod Fates
 pub mod Account
 pub mod Kept
 pub mod Runs
+pub mod Headline
+pub mod Books
+pub mod State
+pub mod Grounds
+pub mod Handed
+pub mod Laws

@@ -14,9 +14,9 @@ use Rattle.scp_desks.specs.declared.outlets.Outlets.{Outlets}
 use Rattle.scp_desks.specs.Places.{Each, link_of, peer_at, AreTwoOf}
 use Rattle.scp_desks.specs.Table.{at_link, at_place, AreRows, AreAllBack, AllCameOut, AreOutletsOf, ArePuttersOf, PutAt, IsAnyTakerOf, IsTakerOf}
 use Rattle.scp_desks.proofs.Peers.{peer_of_place, place_among, places_of_all}
-use Rattle.scp_grounds.specs.Grounds.{Grounds, IsSentOut}
-use Rattle.scp_grounds.specs.Handed.{handed_by}
-use Rattle.scp_grounds.specs.Laws.{AreHandedOut, HandedOutMayGo}
+use Rattle.scp_theorem.specs.Grounds.{Grounds, IsSentOut}
+use Rattle.scp_theorem.specs.Handed.{handed_by}
+use Rattle.scp_theorem.specs.Laws.{AreHandedOut, HandedOutMayGo}
 use Rattle.scp_ledger.specs.declared.took.Outgoing.{Outgoing}
 use Rattle.scp_ends.specs.Links.{LinkEnd}
 use Rattle.scp_ends.specs.Order.{values}

@@ -6,9 +6,9 @@ use Rattle.scp_outbox.specs.declared.mark.Out.{Out}
 use Rattle.scp_desks.specs.Places.{link_of}
 use Rattle.scp_desks.specs.Table.{CameOut}
 use Rattle.scp_ledger.specs.declared.took.Outgoing.{Outgoing}
-use Rattle.scp_grounds.specs.Grounds.{Grounds, IsSentOut}
-use Rattle.scp_grounds.specs.Handed.{handed_by}
-use Rattle.scp_grounds.specs.Laws.{AreHandedOut}
+use Rattle.scp_theorem.specs.Grounds.{Grounds, IsSentOut}
+use Rattle.scp_theorem.specs.Handed.{handed_by}
+use Rattle.scp_theorem.specs.Laws.{AreHandedOut}
 use Rattle.scp_ends.specs.Links.{LinkEnd}
 use Rattle.scp_ends.specs.Order.{values}
 use Rattle.scp_courier.specs.Carrying.{HasCarried}

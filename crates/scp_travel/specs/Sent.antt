@@ -7,8 +7,8 @@ use Rattle.scp_outbox.specs.declared.mark.Out.{Out}
 use Rattle.scp_desks.specs.Table.{CameOut}
 use Rattle.scp_ends.specs.Links.{LinkEnd}
 use Rattle.scp_courier.specs.Carrying.{HasCarried}
-use Rattle.scp_grounds.specs.Grounds.{Grounds, IsSentOut}
-use Rattle.scp_grounds.specs.Laws.{MayGo}
+use Rattle.scp_theorem.specs.Grounds.{Grounds, IsSentOut}
+use Rattle.scp_theorem.specs.Laws.{MayGo}
 
 -- the bytes that an item of a link carries
 abbrev pub bytes_on : LinkItem → List (List ℕ)

@@ -5,7 +5,7 @@ use Rattle.scp_wire.specs.declared.message.Message.{Message}
 use Rattle.scp_ledger.specs.declared.took.Onward.{Onward}
 use Rattle.scp_ledger.specs.declared.took.Outgoing.{Outgoing}
 use Rattle.scp_apply.specs.Applier.{ApplierView, Takes}
-use Rattle.scp_grounds.specs.Handed.{out_of, Answers}
+use Rattle.scp_theorem.specs.Handed.{out_of, Answers}
 
 pub answers_one : (first old new : ApplierView) (took : List Onward) (out outs : List Outgoing) (x : Onward) (answer : Option (ℕ × Message)) → Answers first took out old → Takes old x answer new → outs ≡ out_of answer → Answers first (took ++ x ∷ []) (out ++ outs) new
 answers_one first old new [] out outs x answer h takes is = (

@@ -14,7 +14,7 @@ use Rattle.scp_ledger.specs.declared.took.Took.{Took}
 use Rattle.scp_ledger.specs.Seen.{LedgerView}
 use Rattle.scp_ledger.specs.By.{TakesBy, TellsBy}
 use Rattle.scp_ledger.specs.Runs.{Taking, thing_of, onward_of, nothing_taken}
-use Rattle.scp_grounds.specs.Handed.{out_by}
+use Rattle.scp_theorem.specs.Handed.{out_by}
 use Rattle.scp_workers.specs.Slot.{fate_of, TellsEach, HaveFates}
 use Rattle.scp_workers.proofs.Driving.{driver_stays}
 

@@ -10,7 +10,7 @@ use Rattle.scp_wire.specs.declared.message.Message.{Message}
 use Rattle.scp_desk.specs.Ends.{PutterView}
 use Rattle.scp_ledger.specs.declared.took.Outgoing.{Outgoing}
 use Rattle.scp_ledger.specs.declared.took.Outgoing.TheVariants.{To}
-use Rattle.scp_grounds.specs.Handed.{handed_by, messages_for}
+use Rattle.scp_theorem.specs.Handed.{handed_by, messages_for}
 use Rattle.scp_workers.specs.Working.{AreSameOutlets, AreUnused, HavePut}
 use Rattle.scp_workers.specs.inside.Handing.{PutsOut, PutsAt}
 

@@ -11,7 +11,7 @@ use Rattle.scp_pending.specs.Passes.{Passes}
 use Rattle.scp_pending.specs.Pends.{Pends}
 use Rattle.scp_pending.specs.Rules.{PendingView, Settled, fresh, rules, reply, settled_by, taken_in}
 use Rattle.scp_ledger.specs.declared.took.Outgoing.{Outgoing}
-use Rattle.scp_grounds.specs.Handed.{out_of, replies_from}
+use Rattle.scp_theorem.specs.Handed.{out_of, replies_from}
 use Rattle.scp_workers.specs.Pending.{PendsFrom}
 
 -- the reply to the last item comes at last

@@ -2,7 +2,7 @@
 use Rattle.std.specs.Prelude.{◌≡◌, List}
 use Rattle.scp_ledger.specs.declared.took.Onward.{Onward}
 use Rattle.scp_ledger.specs.declared.took.Outgoing.{Outgoing}
-use Rattle.scp_grounds.specs.Handed.{Answers}
+use Rattle.scp_theorem.specs.Handed.{Answers}
 use Rattle.scp_apply.specs.Applier.{ApplierView}
 use Rattle.scp_apply.specs.Applies.{Applies}
 use Rattle.scp_workers.specs.declared.apply.Nothing.{Nothing}

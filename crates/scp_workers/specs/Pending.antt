@@ -7,7 +7,7 @@ use Rattle.scp_pending.specs.declared.ready.Ready.{Ready}
 use Rattle.scp_pending.specs.Rules.{PendingView, fresh}
 use Rattle.scp_pending.specs.Pends.{Pends}
 use Rattle.scp_ledger.specs.declared.took.Outgoing.{Outgoing}
-use Rattle.scp_grounds.specs.Handed.{replies_from}
+use Rattle.scp_theorem.specs.Handed.{replies_from}
 use Rattle.scp_workers.specs.Working.{Work, End, HasRun}
 
 -- what contracts see of the worker of the pending stage

@@ -10,7 +10,7 @@ use Rattle.scp_ledger.specs.declared.took.Outgoing.{Outgoing}
 use Rattle.scp_ledger.specs.Runs.{Taking, things, onwards_of, nothing_taken}
 use Rattle.scp_ledger.specs.Seen.{LedgerView}
 use Rattle.scp_ledger.specs.By.{JournalsBy, TakesBy, TellsBy}
-use Rattle.scp_grounds.specs.Handed.{outs_of}
+use Rattle.scp_theorem.specs.Handed.{outs_of}
 use Rattle.scp_workers.specs.declared.slot.SlotStage.{SlotStage}
 use Rattle.scp_workers.specs.Working.{Work, End, HasRun}
 

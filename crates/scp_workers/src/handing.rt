@@ -2,7 +2,7 @@
 ghost use Rattle.std.specs.Prelude.{◌≡◌, [], ◌∷◌, IfSome, OnOk};
 ghost use Rattle.scp_wire.specs.Fitting.{IsFitting};
 ghost use Rattle.scp_ledger.specs.Fitting.{FitsOut};
-ghost use Rattle.scp_grounds.specs.Handed.{out_of};
+ghost use Rattle.scp_theorem.specs.Handed.{out_of};
 ghost use Rattle.scp_workers.specs.Handing.{FitsOuts, outgoing_of};
 ghost use Rattle.scp_workers.specs.Working.{AreSameOutlets};
 ghost use Rattle.scp_workers.specs.inside.Handing.{PutsOut, PutsAt};

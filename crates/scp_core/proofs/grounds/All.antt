@@ -4,9 +4,9 @@ use Rattle.std.specs.Prelude.{None, fold, length}
 use Rattle.std.specs.List.{AllByRecursion}
 use Rattle.std.proofs.lemmas.Grind.{flat_map-append}
 use Rattle.scp_driver.specs.Driver.{Says}
-use Rattle.scp_grounds.specs.Grounds.{IsSentOut}
-use Rattle.scp_grounds.proofs.Basics.{none_some}
-use Rattle.scp_grounds.proofs.Fit.{first_fit}
+use Rattle.scp_theorem.specs.Grounds.{IsSentOut}
+use Rattle.scp_theorem.proofs.Basics.{none_some}
+use Rattle.scp_theorem.proofs.Fit.{first_fit}
 use Rattle.scp_core.specs.declared.config.Config.{Config}
 use Rattle.scp_core.specs.declared.event.Event.{Event}
 use Rattle.scp_core.specs.declared.event.Reply.{Reply}

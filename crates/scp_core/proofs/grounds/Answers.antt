@@ -18,9 +18,9 @@ use Rattle.scp_ledger.specs.Onwards.{request_on, requests_on}
 use Rattle.scp_ledger.specs.Runs.{things}
 use Rattle.scp_apply.specs.Applied.{value_of}
 use Rattle.scp_apply.specs.Applier.{ApplierView, Takes}
-use Rattle.scp_grounds.specs.Grounds.{TellsToAsk, AsksForRecord}
-use Rattle.scp_grounds.proofs.Asked.{command_in, request_stands, value_there, answer_may}
-use Rattle.scp_grounds.proofs.Replies.{MayReply}
+use Rattle.scp_theorem.specs.Grounds.{TellsToAsk, AsksForRecord}
+use Rattle.scp_theorem.proofs.Asked.{command_in, request_stands, value_there, answer_may}
+use Rattle.scp_theorem.proofs.Replies.{MayReply}
 use Rattle.scp_core.specs.Flow.{Flows}
 use Rattle.scp_core.specs.History.{Past}
 use Rattle.scp_core.specs.Node.{NodeView}

@@ -14,12 +14,12 @@ use Rattle.scp_outbox.specs.Sending.{EmptySends, PutsKeepSends, GivesKeepSends}
 use Rattle.scp_pending.specs.Queues.{hash_of}
 use Rattle.scp_ledger.specs.declared.took.Outgoing.{Outgoing}
 use Rattle.scp_ledger.specs.Seen.{LedgerView}
-use Rattle.scp_grounds.specs.Grounds.{Grounds, MaySend, IsSentOut}
-use Rattle.scp_grounds.specs.Handed.{messages_for, handed_by}
-use Rattle.scp_grounds.proofs.Basics.{there_is, none_some, some_same}
-use Rattle.scp_grounds.proofs.Fit.{NewerOut, handed_append, handed_push, AreFit}
-use Rattle.scp_grounds.proofs.Machines.{AreMine}
-use Rattle.scp_grounds.proofs.Telling.{none_newer}
+use Rattle.scp_theorem.specs.Grounds.{Grounds, MaySend, IsSentOut}
+use Rattle.scp_theorem.specs.Handed.{messages_for, handed_by}
+use Rattle.scp_theorem.proofs.Basics.{there_is, none_some, some_same}
+use Rattle.scp_theorem.proofs.Fit.{NewerOut, handed_append, handed_push, AreFit}
+use Rattle.scp_theorem.proofs.Machines.{AreMine}
+use Rattle.scp_theorem.proofs.Telling.{none_newer}
 use Rattle.scp_core.specs.Node.{HandsOne, HandsEach}
 use Rattle.scp_core.proofs.Queues.{get_set, within}
 

@@ -9,14 +9,14 @@ use Rattle.scp_wire.specs.declared.link.Inbound.TheVariants as inbound
 use Rattle.scp_wire.specs.declared.message.Message.{Message}
 use Rattle.scp_pending.specs.Rules.{Settled, settled_by, reply as reply_to}
 use Rattle.scp_pending.specs.declared.ready.Ready.{Ready}
-use Rattle.scp_grounds.specs.Grounds.{Grounds, start_of, IsSentOut}
-use Rattle.scp_grounds.specs.Handed.{out_of}
-use Rattle.scp_grounds.proofs.Asked.{applied_more}
-use Rattle.scp_grounds.proofs.Basics.{no_more, more_of, there_is, true_isnt}
-use Rattle.scp_grounds.proofs.Fit.{AreFit, fit_more, fit_answer, fit_step}
-use Rattle.scp_grounds.proofs.Growing.{Grows}
-use Rattle.scp_grounds.proofs.Ledgers.{LedgerStep, ledger_step}
-use Rattle.scp_grounds.proofs.Replies.{MayReply, reply_may, reply_more}
+use Rattle.scp_theorem.specs.Grounds.{Grounds, start_of, IsSentOut}
+use Rattle.scp_theorem.specs.Handed.{out_of}
+use Rattle.scp_theorem.proofs.Asked.{applied_more}
+use Rattle.scp_theorem.proofs.Basics.{no_more, more_of, there_is, true_isnt}
+use Rattle.scp_theorem.proofs.Fit.{AreFit, fit_more, fit_answer, fit_step}
+use Rattle.scp_theorem.proofs.Growing.{Grows}
+use Rattle.scp_theorem.proofs.Ledgers.{LedgerStep, ledger_step}
+use Rattle.scp_theorem.proofs.Replies.{MayReply, reply_may, reply_more}
 use Rattle.scp_core.specs.declared.config.Config.{Config}
 use Rattle.scp_core.specs.declared.event.Event.{Event}
 use Rattle.scp_core.specs.declared.event.Event.TheVariants.{Open, Send, Close, Local, ReaderTake, ReaderPut, PendTake, PendPut, SlotTake, SlotPut, ApplyTake, Drain}

@@ -20,7 +20,7 @@ use Rattle.scp_ledger.specs.declared.took.Outgoing.TheVariants.{To}
 use Rattle.scp_apply.specs.Applier.{ApplierView}
 use Rattle.scp_core.specs.Flow.{Flows}
 use Rattle.scp_core.specs.History.{Past}
-use Rattle.scp_grounds.specs.Handed.{handed_by}
+use Rattle.scp_theorem.specs.Handed.{handed_by}
 use Rattle.scp_core.specs.Node.{NodeView, HandsEach, Hands, Drains, Step}
 use Rattle.scp_core.specs.declared.event.Event.TheVariants.{PendTake, Drain}
 use Rattle.scp_core.specs.declared.event.Reply.{Reply}

@@ -4,7 +4,7 @@ use Rattle.std.specs.Prelude.{◌≡◌, ◌⊎◌, ℕ, List, [], ◌∷◌, �
 use Rattle.scp_wire.specs.declared.message.Message.{Message}
 use Rattle.scp_desk.specs.Ends.{PutterView}
 use Rattle.scp_ledger.specs.declared.took.Outgoing.{Outgoing}
-use Rattle.scp_grounds.specs.Handed.{handed_by}
+use Rattle.scp_theorem.specs.Handed.{handed_by}
 
 -- what is handed out for each link was put there, after what was put before
 abbrev pub PutsOut : List Outgoing → List PutterView → List PutterView → Type 0

@@ -1,4 +1,0 @@
-pub mod Waiting
-pub mod Cutting
-pub mod Folding
-pub mod Keeping
