@@ -21,9 +21,9 @@ mod laws;
 mod ledger;
 mod lists;
 mod quorum;
+mod running;
 mod shared;
 mod state;
-mod timers;
 mod took;
 mod window;
 
@@ -34,7 +34,7 @@ pub use laws::{
 };
 pub use ledger::Ledger;
 pub use quorum::Quorum;
+pub use running::timers;
 pub use shared::{DECIDED_LIMIT, SharedDecision};
-pub use timers::timers;
 pub use took::{CommandFate, Onward, Outgoing, OutgoingList, Took};
 pub use window::LAST_SLOT;

@@ -2,7 +2,7 @@ use Rattle.std.proofs.Common.{◌+◌, ℕ, List, sym, subst}
 use Rattle.scp_slot.specs.declared.timers.Timer.{Timer}
 use Rattle.scp_ledger.specs.Timers.{AreTimers, AreTimersIfSlot}
 use Rattle.scp_ledger.proofs.InTurn.{timers_none, timers_more}
-use Rattle.scp_ledger.proofs.timers.timers.Goals as goal
+use Rattle.scp_ledger.proofs.running.timers.Goals as goal
 
 pub loop-ahead-init : goal.loop-ahead-init
 loop-ahead-init g c =
