@@ -14,7 +14,6 @@ use scp_apply::{
 use scp_ballot_rules::the_rules_are_a_function;
 use scp_driver::Driver;
 use scp_envelope::newer_is_an_order;
-use scp_theorem::{what_keeps_the_ledger_keeps_the_headline, what_ran_keeps_the_ledger};
 use scp_ledger::{a_beginning_keeps_the_window, what_holds_of_a_ledger_holds_with_one_thing_more};
 use scp_nominate::an_input_is_a_function;
 use scp_outbox::what_is_sent_was_handed_out;
@@ -22,6 +21,7 @@ use scp_pending::{
     nothing_is_of_a_stranger, the_last_sets_are_stored, what_is_replied_was_asked_for,
     who_it_is_stays,
 };
+use scp_theorem::{what_keeps_the_ledger_keeps_the_headline, what_ran_keeps_the_ledger};
 use scp_wire::{
     a_beginning_keeps_the_shape, what_fits_a_link, what_is_read_grows_with_the_items,
     what_is_read_keeps_the_shape,

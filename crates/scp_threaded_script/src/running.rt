@@ -34,8 +34,8 @@ use scp_desk::{Marker, Taker};
 use scp_desks::{Made, Outlets, link_of, make_all, peer_at, take_all_back};
 use scp_driver::KvDriver;
 use scp_gate::Gate;
-use scp_theorem::what_is_handed_out_may_be_sent;
 use scp_script::{Command, count_of_nodes, id_from, peers_of_node, set_of_node};
+use scp_theorem::what_is_handed_out_may_be_sent;
 use scp_threaded_node::{
     Capacities, Node, NodeReport, Over, Source, Stood, end, make_parts, start,
 };
