@@ -1,7 +1,7 @@
 -- A courier may cross threads.
 use denote.Param.Send.{IsSend, sendable}
 use Rattle.std.proofs.Crossing.{crosses}
-use Rattle.scp_desk.specs.Crossing.{EndsCross}
+use Rattle.scp_shared_outbox.specs.Crossing.{EndsCross}
 use Rattle.scp_ends.specs.contracts.tail.LinkTx as tail
 use Rattle.scp_ends.proofs.tail.LinkTx.TheSendSync.{the_send}
 use Rattle.scp_courier.specs.contracts.courier.Courier as courier

@@ -10,7 +10,7 @@ use Rattle.scp_outbox.specs.declared.mark.Mark.TheVariants.{Opened, Closed, Stop
 use Rattle.scp_outbox.specs.declared.mark.Out.{Out}
 use Rattle.scp_outbox.specs.declared.mark.Out.TheVariants as out
 use Rattle.scp_ends.specs.Links.{LinkEnd, stands, conn_now, conn_next, with_item}
-use Rattle.scp_desk.specs.Ends.{TakerView}
+use Rattle.scp_shared_outbox.specs.Ends.{TakerView}
 
 -- ---- what goes over a link
 

@@ -15,7 +15,7 @@
 //! - All that is given and sent was handed out. If each statement handed out is newer than those of its slot and kind before it,
 //!   so is each that is given and sent, whatever marks are left.
 //!
-//! Not claimed: that what waits is ever sent. An outbox that threads share is in `scp_desk`.
+//! Not claimed: that what waits is ever sent. An outbox that threads share is in `scp_shared_outbox`.
 #![tactic(auto)]
 
 mod laws;

@@ -2,10 +2,10 @@
 ghost use Rattle.std.specs.Prelude.{◌≡◌, [], IfOk};
 
 use scp_courier::Courier;
-use scp_desk::{Marker, Putter, Taker, make};
 use scp_ends::{Item, LinkRx, link};
 use scp_gate::{Gate, Moment, Place};
 use scp_outbox::Mark;
+use scp_shared_outbox::{Marker, Putter, Taker, make};
 use scp_types::{Fault, NodeId};
 use scp_wire::{FittingMessage, LinkItem, decode};
 use std::alloc::Global;

@@ -1,7 +1,7 @@
 ghost use Rattle.std.specs.Prelude.{◌≡◌, ◌∷◌, [], IfOk};
 
-use scp_desk::{Marker, Putter, Taker, ends_cross_threads, make, take_back};
 use scp_outbox::{Mark, Out};
+use scp_shared_outbox::{Marker, Putter, Taker, ends_cross_threads, make, take_back};
 use scp_types::{Fault, Hash};
 use scp_wire::{FittingMessage, Message};
 use std::alloc::{AllocError, Global};

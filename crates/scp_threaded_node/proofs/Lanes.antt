@@ -9,10 +9,10 @@ use Rattle.scp_threaded_node.specs.declared.node.Running.{Running}
 use Rattle.scp_threaded_node.specs.declared.node.Source.{Source}
 use Rattle.scp_threaded_node.specs.Seats.{IsLane, AreLanes, AreUnused, AreRunning, AreDriven, IsDriven, tail_of}
 use Rattle.std.proofs.lemmas.List.{map-append}
-use Rattle.scp_desk.specs.Ends.{TakerView}
+use Rattle.scp_shared_outbox.specs.Ends.{TakerView}
 use Rattle.scp_threaded_node.specs.Outlets.{AllKeep, taker_in, keeps_from, keeps_in}
 use Rattle.scp_threaded_node.specs.Sources.{AreSources, AreFresh, IsFresh, taker_from}
-use Rattle.scp_desks.proofs.Each.{each_front, each_last, each_push}
+use Rattle.scp_shared_outbox.proofs.Each.{each_front, each_last, each_push}
 use Rattle.scp_threaded_node.proofs.Lists.{some_is}
 
 pub lanes_more : (me : NodeId) (peers : List NodeId) (inbox : Line Inbound) (room : ℕ) (xs new : List Lane) (x : Lane) (peer : NodeId) → new ≡ xs ++ x ∷ [] → slice_get peers (length xs) ≡ Some peer → IsLane me peer inbox room (length xs) x.tail x.reader → AreLanes me peers inbox room xs → AreLanes me peers inbox room new

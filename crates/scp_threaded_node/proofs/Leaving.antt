@@ -21,7 +21,7 @@ use Rattle.scp_workers.specs.Pending.{IsFor as PendsFor}
 use Rattle.scp_workers.specs.Slot.{IsFor as JournalsFor}
 use Rattle.scp_workers.specs.Working.{End, Work, Holds, IsLeftOf}
 use Rattle.scp_courier.specs.Carrying.{IsSameLink}
-use Rattle.scp_desk.specs.Ends.{TakerView}
+use Rattle.scp_shared_outbox.specs.Ends.{TakerView}
 use Rattle.scp_gather.specs.Left.{Left}
 use Rattle.scp_pending.specs.Peers.{AreApart}
 use Rattle.scp_gather.specs.Node.{IsLinkAt, IsNode}
@@ -35,7 +35,7 @@ use Rattle.scp_threaded_node.specs.Ended.{IsSentBy, AreSentBy, AreSized}
 use Rattle.scp_threaded_node.specs.declared.ending.TailLeft.{TailLeft}
 use Rattle.scp_threaded_node.specs.Outlets.{IsHandedBack, taker_in, keeps_in}
 use Rattle.scp_threaded_node.specs.inside.Left.{IsLaneOf, AreEndsOf, IsLeft}
-use Rattle.scp_desks.proofs.Each.{each_front, each_last, each_push}
+use Rattle.scp_shared_outbox.proofs.Each.{each_front, each_last, each_push}
 use Rattle.scp_threaded_node.proofs.Lists.{push_cases, some_is, there_is}
 
 -- ---- a worker's sending end

@@ -3,7 +3,7 @@ use Rattle.std.proofs.Common.{◌≡◌, ◌∙◌, ℕ, zero, suc, ◌<◌, ap,
 use Rattle.std.specs.Prelude.{slice_get}
 use Rattle.std.proofs.lemmas.List.{length-append}
 use Rattle.scp_ends.specs.Ends.{Line, Sender, AreFresh, fresh}
-use Rattle.scp_desks.proofs.Each.{get_behind}
+use Rattle.scp_shared_outbox.proofs.Each.{get_behind}
 
 module _ {T : Type 0} where
   pub some_is : (x y : T) → Some x ≡ Some y → x ≡ y

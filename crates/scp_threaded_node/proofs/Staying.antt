@@ -17,7 +17,7 @@ use Rattle.scp_threaded_node.specs.declared.node.Tail.{Tail}
 use Rattle.scp_threaded_node.specs.declared.node.Tail.TheVariants.{Host, Courier}
 use Rattle.scp_threaded_node.specs.Acting.{act_on, acted, with_command, ActsAt, IsUnchanged}
 use Rattle.scp_threaded_node.specs.Seats.{IsLane, AreRunning, Runs, tail_of}
-use Rattle.scp_desks.proofs.Lists.{set_length}
+use Rattle.scp_shared_outbox.proofs.ListsOfAll.{set_length}
 use Rattle.scp_threaded_node.proofs.Changing.{each_set}
 
 with_item_lane : (me peer : NodeId) (inbox : Line Inbound) (room place : ℕ) (k : LinkEnd) (x : LinkItem) (r : ReaderWork) → IsLane me peer inbox room place k r → IsLane me peer inbox room place (with_item k x) r

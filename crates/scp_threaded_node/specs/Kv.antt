@@ -7,8 +7,8 @@ use Rattle.scp_driver.specs.declared.kv_driver.KvDriver.{KvDriver}
 use Rattle.scp_driver.specs.Kv.{kv_says}
 use Rattle.scp_kv.specs.Map.{KvMap}
 use Rattle.scp_kv.specs.State.{after_value}
-use Rattle.scp_desk.specs.Ends.{TakerView}
-use Rattle.scp_desks.specs.declared.outlets.Outlets.{Outlets}
+use Rattle.scp_shared_outbox.specs.Ends.{TakerView}
+use Rattle.scp_shared_outbox.specs.declared.outlets.Outlets.{Outlets}
 use Rattle.scp_wire.specs.declared.link.Inbound.{Inbound}
 use Rattle.scp_wire.specs.declared.link.LinkItem.{LinkItem}
 use Rattle.scp_gather.specs.Kv.{NodeReport, Left}

@@ -2,9 +2,9 @@
 use Rattle.std.specs.Prelude.{◌≡◌, Bool, List, length, map, Option, None, Some, is_some, slice_get}
 use Rattle.scp_types.specs.declared.names.NodeId.{NodeId}
 use Rattle.scp_quorum.specs.QuorumTree.{QuorumTree}
-use Rattle.scp_desk.specs.Ends.{PutterView, TakerView}
-use Rattle.scp_desks.specs.Places.{Each}
-use Rattle.scp_desks.specs.declared.outlets.Outlets.{Outlets}
+use Rattle.scp_shared_outbox.specs.Ends.{PutterView, TakerView}
+use Rattle.scp_shared_outbox.specs.Places.{Each}
+use Rattle.scp_shared_outbox.specs.declared.outlets.Outlets.{Outlets}
 use Rattle.scp_ends.specs.Links.{LinkEnd}
 use Rattle.scp_workers.specs.Working.{AreSameOutlets}
 use Rattle.scp_workers.specs.Reading.{ReaderWork}

@@ -4,7 +4,7 @@ use Rattle.scp_types.specs.declared.names.NodeId.{NodeId}
 use Rattle.scp_quorum.specs.QuorumTree.{QuorumTree}
 use Rattle.scp_wire.specs.declared.link.Inbound.{Inbound}
 use Rattle.scp_wire.specs.declared.link.LinkItem.{LinkItem}
-pub use Rattle.scp_desks.specs.Places.{Each}
+pub use Rattle.scp_shared_outbox.specs.Places.{Each}
 use Rattle.scp_ends.specs.Ends.{Line, Sender}
 use Rattle.scp_ends.specs.Links.{LinkEnd}
 use Rattle.scp_threaded_node.specs.declared.capacities.Capacities.{Capacities}

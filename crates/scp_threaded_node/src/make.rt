@@ -13,14 +13,13 @@ ghost use Rattle.scp_threaded_node.specs.Sources.{HaveRoom};
 ghost use Rattle.scp_threaded_node.specs.Outlets.{AllKeep, keeps_from};
 
 use crate::capacities::Capacities;
-use scp_desk::Putter;
-use scp_desks::Outlets;
 use scp_driver::{Application, KvDriver};
 use scp_ends::{
     DecidedRx, DecidedTx, InboxRx, InboxTx, LinkRx, LinkTx, LocalTx, ReadyRx, ReadyTx, decided,
     inbox, link, ready,
 };
 use scp_quorum::{QuorumSet, SaneSet};
+use scp_shared_outbox::{Outlets, Putter};
 use scp_types::{Fault, NodeId};
 use scp_workers::{
     ApplyWorker, PendWorker, ReaderWorker, SlotWorker, applier, pending, reader, slots,

@@ -15,10 +15,10 @@ use crate::starting::{
     ApplyThread, CourierThread, PendThread, ReaderThread, SlotThread, start_courier, start_worker,
 };
 use scp_courier::Courier;
-use scp_desk::Taker;
 use scp_driver::{Application, KvDriver};
 use scp_ends::{LinkTx, LocalTx};
 use scp_gate::Gate;
+use scp_shared_outbox::Taker;
 use scp_types::{Fault, NodeId};
 use scp_workers::{ApplyWorker, SlotWorker};
 use std::alloc::Global;

@@ -5,12 +5,12 @@ ghost use Rattle.scp_courier.specs.Carrying as carrying;
 
 use scp_apply::Applier;
 use scp_courier::{Courier, CourierEnded};
-use scp_desk::ends_cross_threads;
 use scp_driver::KvDriver;
 use scp_ends::{Any, InWindow, Law};
 use scp_gate::Gate;
 use scp_ledger::Onward;
 use scp_pending::{Pending, Ready};
+use scp_shared_outbox::ends_cross_threads;
 use scp_types::Fault;
 use scp_wire::{Inbound, LinkItem};
 use scp_workers::{Ended, Nothing, ReadingStage, SlotStage, Stage, Worker};

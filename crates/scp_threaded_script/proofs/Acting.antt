@@ -24,9 +24,9 @@ use Rattle.scp_threaded_script.specs.Lines.{link_of, peer_at, item_by, items_on,
 use Rattle.scp_threaded_script.specs.inside.Played.{AllRun, AreTold, AreItemsSent, HaveDone, AreTwoOf, ActsOn, AreUnchanged}
 use Rattle.scp_threaded_script.specs.Reported.{AllRunSoFar}
 use Rattle.scp_threaded_node.proofs.Staying.{acts_runs, unchanged_runs}
-use Rattle.scp_desks.proofs.Lists.{set_length}
+use Rattle.scp_shared_outbox.proofs.ListsOfAll.{set_length}
 use Rattle.scp_threaded_node.proofs.Changing.{each_set}
-use Rattle.scp_desks.proofs.Peers.{peer_of_place}
+use Rattle.scp_shared_outbox.proofs.Peers.{peer_of_place}
 use Rattle.scp_threaded_script.proofs.Links.{same_link, to_another, at_another, peer_there}
 use Rattle.scp_threaded_script.proofs.Sending.{items_more, life_after}
 use Rattle.scp_threaded_script.proofs.Telling.{none_more}

@@ -16,7 +16,7 @@ use Rattle.scp_threaded_node.specs.Acting.{with_command, ActsAt, IsUnchanged}
 use Rattle.scp_threaded_script.specs.Lines.{link_of, local_by}
 use Rattle.scp_threaded_script.specs.inside.Played.{AllRun, HaveDone, HaveLanes, AreTwoOf, ActsOn, AreUnchanged, IsNoLink, IsCommandOf, TellsAt}
 use Rattle.scp_threaded_script.proofs.Acting.{IsLineOn, acts_run, acts_done, unchanged_run}
-use Rattle.scp_desks.proofs.Lists.{set_length}
+use Rattle.scp_shared_outbox.proofs.ListsOfAll.{set_length}
 use Rattle.scp_threaded_node.proofs.Changing.{set_same, each_set}
 use Rattle.scp_threaded_script.proofs.Links.{place_if}
 use Rattle.scp_threaded_script.proofs.Peers.{peer_count}

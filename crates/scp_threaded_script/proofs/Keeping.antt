@@ -4,8 +4,8 @@ use Rattle.std.specs.Prelude.{is_some, map, slice_get}
 use Rattle.std.specs.Global.{Vec}
 use Rattle.std.specs.List.{AllByRecursion}
 use Rattle.std.proofs.lemmas.Option.{slice_get_within}
-use Rattle.scp_desk.specs.Ends.{TakerView}
-use Rattle.scp_desks.specs.declared.outlets.Outlets.{Outlets}
+use Rattle.scp_shared_outbox.specs.Ends.{TakerView}
+use Rattle.scp_shared_outbox.specs.declared.outlets.Outlets.{Outlets}
 use Rattle.scp_wire.specs.declared.link.LinkItem.{LinkItem}
 use Rattle.scp_threaded_node.specs.scp_gather.specs.Kv.{NodeReport}
 use Rattle.scp_script.specs.declared.command.Command.{Command}

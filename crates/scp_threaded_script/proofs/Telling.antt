@@ -19,7 +19,7 @@ use Rattle.scp_threaded_script.specs.Lines.{peer_at, item_by, items_on, command_
 use Rattle.scp_threaded_script.specs.inside.Played.{AllRun, AreTold, AreItemsSent, HaveDone, IsNoLink, TellsAt, IsCommandOf}
 use Rattle.scp_threaded_script.specs.Reported.{AllRunSoFar}
 use Rattle.scp_threaded_node.proofs.Staying.{told_runs}
-use Rattle.scp_desks.proofs.Lists.{set_length}
+use Rattle.scp_shared_outbox.proofs.ListsOfAll.{set_length}
 use Rattle.scp_threaded_node.proofs.Changing.{each_set}
 use Rattle.scp_threaded_script.proofs.Sending.{items_more}
 

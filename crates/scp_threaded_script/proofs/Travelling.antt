@@ -9,11 +9,11 @@ use Rattle.scp_wire.specs.declared.link.Inbound.{Inbound}
 use Rattle.scp_wire.specs.declared.link.LinkItem.{LinkItem}
 use Rattle.scp_wire.specs.LinkReading.{unread, readings}
 use Rattle.scp_wire.specs.Shape.{of_peer}
-use Rattle.scp_desk.specs.Ends.{PutterView, MarkerView, TakerView}
-use Rattle.scp_desks.specs.declared.outlets.Outlets.{Outlets}
-use Rattle.scp_desks.specs.Places.{Each, link_of, peer_at, AreTwoOf}
-use Rattle.scp_desks.specs.Table.{at_link, at_place, AreRows, AreAllBack, AllCameOut, AreOutletsOf, ArePuttersOf, PutAt, IsAnyTakerOf, IsTakerOf}
-use Rattle.scp_desks.proofs.Peers.{peer_of_place, place_among, places_of_all}
+use Rattle.scp_shared_outbox.specs.Ends.{PutterView, MarkerView, TakerView}
+use Rattle.scp_shared_outbox.specs.declared.outlets.Outlets.{Outlets}
+use Rattle.scp_shared_outbox.specs.Places.{Each, link_of, peer_at, AreTwoOf}
+use Rattle.scp_shared_outbox.specs.Table.{at_link, at_place, AreRows, AreAllBack, AllCameOut, AreOutletsOf, ArePuttersOf, PutAt, IsAnyTakerOf, IsTakerOf}
+use Rattle.scp_shared_outbox.proofs.Peers.{peer_of_place, place_among, places_of_all}
 use Rattle.scp_theorem.specs.Grounds.{Grounds, IsSentOut}
 use Rattle.scp_theorem.specs.Handed.{handed_by}
 use Rattle.scp_theorem.specs.Laws.{AreHandedOut, HandedOutMayGo}

@@ -8,7 +8,7 @@ use Rattle.scp_wire.specs.declared.link.Inbound.TheVariants.{Local}
 use Rattle.scp_wire.specs.declared.link.LinkItem.{LinkItem}
 use Rattle.scp_wire.specs.declared.link.LinkItem.TheVariants as item
 use Rattle.scp_wire.specs.Connections.{conn_at}
-pub use Rattle.scp_desks.specs.Places.{link_of, peer_at}
+pub use Rattle.scp_shared_outbox.specs.Places.{link_of, peer_at}
 use Rattle.scp_script.specs.declared.command.Command.{Command}
 use Rattle.scp_script.specs.declared.command.Command.TheVariants.{Caps, Nodes, Set, Open, Close, Send, Propose, Round, Timer, Tick, Ask, Settle, Wait, Report}
 use Rattle.scp_script.specs.Nodes.{id_of}

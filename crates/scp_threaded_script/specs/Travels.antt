@@ -3,8 +3,8 @@ use Rattle.std.specs.Prelude.{◌≡◌, ℕ, List, Some, slice_get}
 use Rattle.scp_driver.specs.Kv.{kv_says}
 use Rattle.scp_wire.specs.Shape.{of_peer}
 use Rattle.scp_outbox.specs.declared.mark.Out.{Out}
-use Rattle.scp_desks.specs.Places.{link_of}
-use Rattle.scp_desks.specs.Table.{CameOut}
+use Rattle.scp_shared_outbox.specs.Places.{link_of}
+use Rattle.scp_shared_outbox.specs.Table.{CameOut}
 use Rattle.scp_ledger.specs.declared.took.Outgoing.{Outgoing}
 use Rattle.scp_theorem.specs.Grounds.{Grounds, IsSentOut}
 use Rattle.scp_theorem.specs.Handed.{handed_by}

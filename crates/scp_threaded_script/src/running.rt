@@ -14,9 +14,9 @@ ghost use Rattle.scp_types.specs.declared.limits.TheConstants.{NODE_LIMIT, PEER_
 ghost use Rattle.scp_threaded_script.specs.Lines.{is_driven, driven_to};
 ghost use Rattle.scp_threaded_script.specs.inside.Outlets.{AreSameMarkers, AreTakenFrom, IsKeeping, AreKeeping, IsSeated, AreSeated, all_given};
 ghost use Rattle.scp_threaded_script.specs.inside.Over.{AreOver};
-ghost use Rattle.scp_desk.specs.Ends.{MarkerView};
-ghost use Rattle.scp_desks.specs.Places.{Each};
-ghost use Rattle.scp_desks.specs.Table.{AreMade, AreRows, AreAllBack, AllCameOut, AreOutletsOf, IsTakerOf, HavePutNothing};
+ghost use Rattle.scp_shared_outbox.specs.Ends.{MarkerView};
+ghost use Rattle.scp_shared_outbox.specs.Places.{Each};
+ghost use Rattle.scp_shared_outbox.specs.Table.{AreMade, AreRows, AreAllBack, AllCameOut, AreOutletsOf, IsTakerOf, HavePutNothing};
 ghost use Rattle.scp_threaded_node.specs.Kv.{Over as NodeOver};
 ghost use Rattle.scp_threaded_node.specs.Outlets.{given_to};
 ghost use Rattle.scp_threaded_script.specs.inside.Ending.{HaveAllEnded, IsEndFault, IsNumbered, IsWhole};
@@ -30,11 +30,10 @@ ghost use Rattle.scp_threaded_script.specs.inside.Reported.{AllStand};
 use crate::gate::{Counting, Lent};
 use crate::lines::act_all;
 use crate::outboxes::{all_losses, is_driven, stood_of, stop_all};
-use scp_desk::{Marker, Taker};
-use scp_desks::{Made, Outlets, link_of, make_all, peer_at, take_all_back};
 use scp_driver::KvDriver;
 use scp_gate::Gate;
 use scp_script::{Command, count_of_nodes, id_from, peers_of_node, set_of_node};
+use scp_shared_outbox::{Made, Marker, Outlets, Taker, link_of, make_all, peer_at, take_all_back};
 use scp_theorem::what_is_handed_out_may_be_sent;
 use scp_threaded_node::{
     Capacities, Node, NodeReport, Over, Source, Stood, end, make_parts, start,

@@ -13,8 +13,8 @@ use Rattle.scp_outbox.specs.declared.mark.Mark.TheVariants.{Opened, Closed, Stop
 use Rattle.scp_outbox.specs.declared.mark.Out.{Out}
 use Rattle.scp_outbox.specs.declared.mark.Out.TheVariants as out
 use Rattle.scp_outbox.specs.Sent.{statement_of}
-use Rattle.scp_desk.specs.Laws.{messages_of, GivenWasPut, StatementsGoInOrder}
-use Rattle.scp_desks.specs.Table.{by_three}
+use Rattle.scp_shared_outbox.specs.Laws.{messages_of, GivenWasPut, StatementsGoInOrder}
+use Rattle.scp_shared_outbox.specs.Table.{by_three}
 use Rattle.scp_ends.specs.Links.{LinkEnd, conn_now, conn_next, with_item}
 use Rattle.scp_courier.specs.Carrying.{Tells, Carried, unsent}
 use Rattle.scp_theorem.specs.Grounds.{Grounds, MaySend}

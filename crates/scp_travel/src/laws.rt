@@ -2,7 +2,7 @@
 ghost use Rattle.scp_travel.specs.Sent.{WhatIsCarriedIsSentOut};
 ghost use Rattle.scp_travel.specs.Theirs.{WhatCameFirstIsTheirs, WhatIsReadIsTheirs};
 
-use scp_desk::{statements_are_given_in_order, what_is_given_was_put};
+use scp_shared_outbox::{statements_are_given_in_order, what_is_given_was_put};
 use scp_wire::what_is_spelt_is_read;
 
 /// What a courier carried of what came out of an outbox may be sent, and each statement is newer than those of its slot and kind before it.

@@ -7,7 +7,7 @@ use Rattle.std.proofs.lemmas.Option.{slice_get_within, slice_get-get_or}
 use Rattle.std.proofs.lemmas.Grind.{flat_map-append}
 use native.Mathlib.Decide.{ℕ_discrete, dec_lt}
 use Rattle.scp_wire.specs.declared.message.Message.{Message}
-use Rattle.scp_desk.specs.Ends.{PutterView}
+use Rattle.scp_shared_outbox.specs.Ends.{PutterView}
 use Rattle.scp_ledger.specs.declared.took.Outgoing.{Outgoing}
 use Rattle.scp_ledger.specs.declared.took.Outgoing.TheVariants.{To}
 use Rattle.scp_theorem.specs.Handed.{handed_by, messages_for}

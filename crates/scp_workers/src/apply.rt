@@ -6,11 +6,11 @@ use crate::handing::answered;
 use crate::stage::{Given, Stage};
 use crate::worker::{Ended, Worker};
 use scp_apply::{Applier, what_holds_of_an_applier_holds_with_one_thing_more};
-use scp_desk::Putter;
 use scp_driver::{Application, KvDriver};
 use scp_ends::{Any, DecidedRx, InWindow};
 use scp_gate::Stage as Place;
 use scp_ledger::Onward;
+use scp_shared_outbox::Putter;
 use scp_types::NodeId;
 use std::alloc::Global;
 

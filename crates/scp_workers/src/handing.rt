@@ -8,9 +8,9 @@ ghost use Rattle.scp_workers.specs.Working.{AreSameOutlets};
 ghost use Rattle.scp_workers.specs.inside.Handing.{PutsOut, PutsAt};
 
 use crate::stage::Outs;
-use scp_desk::Putter;
 use scp_envelope::SharedEnvelope;
 use scp_ledger::{Outgoing, OutgoingList};
+use scp_shared_outbox::Putter;
 use scp_types::Fault;
 use scp_wire::{BoxedEnvelope, FittingMessage, Message};
 use std::sync::Wait;

@@ -5,7 +5,6 @@ ghost use Rattle.scp_workers.specs.Working.{AreUnused};
 
 use crate::stage::{Given, Outs, Stage};
 use crate::worker::{Ended, Worker};
-use scp_desk::Putter;
 use scp_driver::{Driver, KvDriver};
 use scp_ends::{Any, DecidedTx, InWindow, ReadyRx};
 use scp_gate::Stage as Place;
@@ -15,6 +14,7 @@ use scp_ledger::{
 };
 use scp_pending::Ready;
 use scp_quorum::SaneSet;
+use scp_shared_outbox::Putter;
 use scp_types::NodeId;
 use std::alloc::{AllocError, Global};
 use std::sync::Arc;

@@ -1,6 +1,6 @@
 -- What the threads of a node left, compared with what they were started with.
 use Rattle.std.specs.Prelude.{◌≡◌, ℕ, List, length, Option, Some, slice_get}
-use Rattle.scp_desk.specs.Ends.{TakerView}
+use Rattle.scp_shared_outbox.specs.Ends.{TakerView}
 use Rattle.scp_ends.specs.Links.{LinkEnd}
 use Rattle.scp_workers.specs.Working.{Holds}
 use Rattle.scp_workers.specs.Reading.{ReaderEnd}

@@ -11,7 +11,7 @@ use Rattle.scp_threaded_node.specs.Kv.{Node}
 use Rattle.scp_threaded_node.specs.Acting.{with_command, ActsAt, IsUnchanged}
 use Rattle.scp_threaded_node.specs.Seats.{Each, AreDriven}
 use Rattle.scp_threaded_script.specs.Lines.{link_of, driven_to, items_to, command_by, commands_for}
-pub use Rattle.scp_desks.specs.Places.{AreTwoOf}
+pub use Rattle.scp_shared_outbox.specs.Places.{AreTwoOf}
 use Rattle.scp_threaded_script.specs.Reported.{AllRunSoFar, IsOneOf}
 
 -- ---- all nodes

@@ -2,7 +2,7 @@
 -- No public clause reaches these definitions: nothing here need be believed.
 use Rattle.std.specs.Prelude.{◌≡◌, ◌⊎◌, ℕ, List, [], ◌∷◌, ◌++◌, Some, None, slice_get, slice_set}
 use Rattle.scp_wire.specs.declared.message.Message.{Message}
-use Rattle.scp_desk.specs.Ends.{PutterView}
+use Rattle.scp_shared_outbox.specs.Ends.{PutterView}
 use Rattle.scp_ledger.specs.declared.took.Outgoing.{Outgoing}
 use Rattle.scp_theorem.specs.Handed.{handed_by}
 

@@ -1,7 +1,7 @@
 use Rattle.std.proofs.Common.{◌≡◌, ◌∙◌, ℕ, ◌≤◌, List, length, Result, Ok, sym, ap, subst, arith}
 use Rattle.std.specs.Prelude.{IfOk, OnOk, OnErr}
 use Rattle.std.proofs.lemmas.List.{length-map}
-use Rattle.scp_desks.specs.Table.{AreAllBack, AllCameOut}
+use Rattle.scp_shared_outbox.specs.Table.{AreAllBack, AllCameOut}
 use Rattle.scp_threaded_node.specs.scp_gather.specs.Kv.{NodeReport}
 use Rattle.scp_threaded_node.specs.Outlets.{given_to}
 use Rattle.scp_threaded_script.specs.Reported.{AreNodesReported, AreAllKept}

@@ -5,7 +5,7 @@ use Rattle.std.proofs.lemmas.Option.{slice_get-get_or}
 use Rattle.scp_envelope.specs.declared.statement.Envelope.{Envelope as Enveloped}
 use Rattle.scp_wire.specs.declared.message.Message.{Message}
 use Rattle.scp_wire.specs.declared.message.Message.TheVariants.{Envelope}
-use Rattle.scp_desk.specs.Ends.{PutterView}
+use Rattle.scp_shared_outbox.specs.Ends.{PutterView}
 use Rattle.scp_ledger.specs.declared.took.Outgoing.TheVariants.{ToAll}
 use Rattle.scp_workers.specs.Working.{AreSameOutlets}
 use Rattle.scp_workers.specs.inside.Handing.{PutsOut}

@@ -1,5 +1,5 @@
 use Rattle.std.proofs.Common.{List, ap, subst, rules}
-use Rattle.scp_desk.specs.Ends.{PutterView}
+use Rattle.scp_shared_outbox.specs.Ends.{PutterView}
 use Rattle.scp_workers.specs.Working.{AreSameOutlets}
 use Rattle.scp_workers.proofs.Outlets.{same_on}
 use Rattle.scp_workers.proofs.worker.Worker.run.Goals as goal

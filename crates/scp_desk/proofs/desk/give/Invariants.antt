@@ -1,5 +1,0 @@
-use Rattle.scp_desk.specs.declared.turn.Turn.TheVariants.{Gives}
-use Rattle.scp_desk.proofs.desk.give.Given as goal
-
-abbrev pub ghosts-tell_given : goal.ghosts-tell_given
-ghosts-tell_given g a = record { turn = Gives a.given.now }

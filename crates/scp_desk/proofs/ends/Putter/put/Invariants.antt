@@ -1,5 +1,0 @@
-use Rattle.scp_desk.specs.declared.turn.Turn.TheVariants.{Puts}
-use Rattle.scp_desk.proofs.ends.Putter.put.Given as goal
-
-abbrev pub ghosts-put : goal.ghosts-put
-ghosts-put g a = record { turn = Puts a.number a.message }

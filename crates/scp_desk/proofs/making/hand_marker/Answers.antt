@@ -1,6 +1,0 @@
-use Rattle.std.proofs.Common.{ap}
-use Rattle.scp_desk.proofs.Moves.{makes_marker}
-use Rattle.scp_desk.proofs.making.hand_marker.Goals as goal
-
-pub another-mine-requires-clause-rule : goal.another-mine-requires-clause-rule
-another-mine-requires-clause-rule c = makes_marker _ _ (ap (λ v. v.marks) c.requires.1)

@@ -1,5 +1,0 @@
-pub mod Turns
-pub mod Ends
-pub mod Laws
-pub mod Crossing
-pub mod inside

@@ -1,7 +1,0 @@
-pub mod Each
-pub mod Peers
-pub mod Lists
-mod Desks
-mod Handing
-mod Back
-mod Rows

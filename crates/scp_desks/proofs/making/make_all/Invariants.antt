@@ -1,5 +1,0 @@
-use Rattle.scp_desks.proofs.Handing.{AreMadeSoFar}
-use Rattle.scp_desks.proofs.making.make_all.Given as goal
-
-abbrev pub invariant-loop-index : goal.invariant-loop-index
-invariant-loop-index l = AreMadeSoFar l.count l.index l.outlets.items l.markers.items l.takers.items

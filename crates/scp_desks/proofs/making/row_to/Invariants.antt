@@ -1,5 +1,0 @@
-use Rattle.scp_desks.proofs.Handing.{IsRowSoFar}
-use Rattle.scp_desks.proofs.making.row_to.Given as goal
-
-abbrev pub invariant-loop-index : goal.invariant-loop-index
-invariant-loop-index l = IsRowSoFar l.to l.index l.fn.outlets.items l.outlets.items l.markers.items l.takers.items
