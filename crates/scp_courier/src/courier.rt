@@ -4,8 +4,7 @@ ghost use Rattle.scp_outbox.specs.declared.mark.Mark.TheVariants as mark;
 ghost use Rattle.scp_outbox.specs.declared.mark.Out.TheVariants as out;
 ghost use Rattle.scp_courier.specs.Carrying.{Carries, EndAtStop, HasCarried, HaveNoStop, Holds, IsCarried, IsSameLink, IsSameTaker, is_stop};
 
-use scp_ends::{LinkDone, LinkTx};
-use scp_gate::{Counter, Gate, Stage};
+use scp_ends::{Counter, Gate, LinkDone, LinkTx, Stage};
 use scp_outbox::{Mark, Out};
 use scp_shared_outbox::Taker;
 use scp_types::NodeId;

@@ -1,4 +1,4 @@
-//! The channels between the workers of a node, each under a rule.
+//! The channels between the workers of a node, each under a rule; and the gate, which says where a worker is to whoever watches it.
 //!
 //! What it promises, under every schedule:
 //! - What each producer sent comes out in its order, each thing once and its end last. Nothing else comes out.
@@ -9,12 +9,13 @@
 //!
 //! What is put is there at once. A sleeper is woken late, so few things cost a switch between threads.
 //!
-//! Not claimed: that a call returns, when a sleeper is woken, or when it is found that the other end is gone.
+//! Not claimed: that a call returns, when a sleeper is woken, when it is found that the other end is gone, or what a gate is called with, and when.
 #![tactic(auto)]
 
 mod channels;
 mod commands;
 mod ends;
+mod gate;
 mod item;
 mod make;
 mod rule;
@@ -28,6 +29,7 @@ pub use channels::{
 };
 pub use commands::{LocalDone, LocalTx};
 pub use ends::{Done, Gone, Nobody, Rx, Tx, Unheard};
+pub use gate::{Counter, Gate, Moment, Open, Place, Stage};
 pub use item::{Item, View};
 pub use rule::{Any, InOrder, Law};
 pub use tail::{LinkDone, LinkTx, NotSent};

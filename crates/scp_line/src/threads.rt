@@ -18,7 +18,7 @@ use crate::laws::what_is_played_keeps_the_headlines;
 use crate::left::{reports_left, sets_of};
 use crate::playing::PlayFault;
 use scp_device::{ReportOut, ScriptIn, read_script, write_text};
-use scp_gate::{Gate, Open};
+use scp_ends::{Gate, Open};
 use scp_report::settled_report;
 use scp_script::{Command, count_of_nodes, parse};
 use scp_threaded_script::{NodeFault, NodeReport, Ran, run_lines};

@@ -2,8 +2,7 @@
 ghost use Rattle.std.specs.Prelude.{◌≡◌, [], IfOk};
 
 use scp_courier::Courier;
-use scp_ends::{Item, LinkRx, link};
-use scp_gate::{Gate, Moment, Place};
+use scp_ends::{Gate, Item, LinkRx, Moment, Place, link};
 use scp_outbox::Mark;
 use scp_shared_outbox::{Marker, Putter, Taker, make};
 use scp_types::{Fault, NodeId};

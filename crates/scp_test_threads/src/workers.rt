@@ -1,5 +1,4 @@
-use scp_ends::{InboxRx, Item, LinkTx, inbox, link};
-use scp_gate::{Gate, Moment, Open, Place, Stage};
+use scp_ends::{Gate, InboxRx, Item, LinkTx, Moment, Open, Place, Stage, inbox, link};
 use scp_types::{Fault, NodeId};
 use scp_wire::{Bytes, Cause, Inbound, Message};
 use scp_workers::{ReaderWorker, reader};

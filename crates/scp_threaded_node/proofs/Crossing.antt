@@ -63,7 +63,7 @@ use Rattle.scp_ledger.specs.contracts.state.State as ledger_state
 use Rattle.scp_ledger.specs.contracts.ledger.Ledger as ledger
 use Rattle.scp_ledger.specs.contracts.ledger.Ledger.TheInside as ledger_inside
 use Rattle.scp_shared_outbox.specs.Crossing.{EndsCross}
-use Rattle.scp_gate.proofs.Counter.TheSendSync as counters
+use Rattle.scp_ends.proofs.gate.Counter.TheSendSync as counters
 use Rattle.scp_ends.proofs.tail.LinkTx.TheSendSync as tails
 use Rattle.scp_ends.proofs.tail.LinkDone.TheSendSync as tails_done
 use Rattle.scp_workers.specs.contracts.reading.ReadingStage as reading

@@ -16,8 +16,7 @@ use crate::starting::{
 };
 use scp_courier::Courier;
 use scp_driver::{Application, KvDriver};
-use scp_ends::{LinkTx, LocalTx};
-use scp_gate::Gate;
+use scp_ends::{Gate, LinkTx, LocalTx};
 use scp_shared_outbox::Taker;
 use scp_types::{Fault, NodeId};
 use scp_workers::{ApplyWorker, SlotWorker};

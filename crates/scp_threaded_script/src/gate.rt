@@ -1,5 +1,5 @@
 //! The gate that counts what the appliers receive.
-use scp_gate::{Gate, Moment, Place, Stage};
+use scp_ends::{Gate, Moment, Place, Stage};
 use scp_types::{NODE_LIMIT, NodeId};
 use std::sync::Wait;
 use std::sync::atomic::{AtomicU64, Ordering};

@@ -21,7 +21,7 @@ ghost use Rattle.scp_threaded_node.specs.Acting.{IsActFault};
 use crate::gate::Counting;
 use crate::outboxes::leave_at;
 use crate::running::NodeFault;
-use scp_gate::Gate;
+use scp_ends::Gate;
 use scp_outbox::Mark;
 use scp_script::Command;
 use scp_shared_outbox::{Marker, link_of};

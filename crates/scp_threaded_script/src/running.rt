@@ -31,7 +31,7 @@ use crate::gate::{Counting, Lent};
 use crate::lines::act_all;
 use crate::outboxes::{all_losses, is_driven, stood_of, stop_all};
 use scp_driver::KvDriver;
-use scp_gate::Gate;
+use scp_ends::Gate;
 use scp_script::{Command, count_of_nodes, id_from, peers_of_node, set_of_node};
 use scp_shared_outbox::{Made, Marker, Outlets, Taker, link_of, make_all, peer_at, take_all_back};
 use scp_theorem::what_is_handed_out_may_be_sent;

@@ -4,8 +4,7 @@ ghost use Rattle.scp_wire.specs.declared.link.LinkItem.{LinkItem};
 
 use crate::stage::{Given, Outs, Stage};
 use crate::worker::{Ended, Worker};
-use scp_ends::{Any, InboxTx, LinkRx};
-use scp_gate::Stage as Place;
+use scp_ends::{Any, InboxTx, LinkRx, Stage as Place};
 use scp_types::{Fault, NodeId};
 use scp_wire::{Inbound, LinkItem, LinkReader};
 use std::alloc::Global;

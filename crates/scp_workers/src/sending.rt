@@ -6,8 +6,7 @@ ghost use Rattle.scp_workers.specs.inside.Working.{GivesOn, TakesOn, RanTo, MayT
 use crate::handing::hand_out;
 use crate::stage::{Given, Stage};
 use crate::telling::about_to_send;
-use scp_ends::{Law, Tx};
-use scp_gate::{Counter, Gate};
+use scp_ends::{Counter, Gate, Law, Tx};
 use scp_shared_outbox::Putter;
 use std::sync::Wait;
 

@@ -6,8 +6,7 @@ ghost use Rattle.scp_workers.specs.Working.{AreUnused};
 use crate::stage::{Given, Outs, Stage};
 use crate::worker::{Ended, Worker};
 use scp_driver::{Driver, KvDriver};
-use scp_ends::{Any, DecidedTx, InWindow, ReadyRx};
-use scp_gate::Stage as Place;
+use scp_ends::{Any, DecidedTx, InWindow, ReadyRx, Stage as Place};
 use scp_ledger::{
     CommandFate, Ledger, Onward, Took, what_holds_of_a_ledger_holds_with_one_thing_more,
     what_is_given_on_keeps_the_window,

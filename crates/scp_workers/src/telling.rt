@@ -2,8 +2,7 @@
 ghost use Rattle.std.specs.Prelude.{◌≡◌, ℕ, ◌<◌, [], ◌∷◌, ◌++◌, IfOk, MatchResult};
 ghost use Rattle.scp_ends.specs.Order.{number_of, of, values};
 
-use scp_ends::{Gone, Item, Law, Nobody, Rx, Tx};
-use scp_gate::{Counter, Gate};
+use scp_ends::{Counter, Gate, Gone, Item, Law, Nobody, Rx, Tx};
 use std::sync::Wait;
 
 /// Wakes the consumer of an end, if there is one, if the gate may hold the worker.

@@ -1,6 +1,6 @@
 //! Nodes whose stages run in threads.
 use super::{REPORT, SCRIPT};
-use scp_gate::{Gate, Moment, Place, Stage};
+use scp_ends::{Gate, Moment, Place, Stage};
 use scp_line::{MemoryIn, MemoryOut, play_gated};
 use scp_types::NodeId;
 use std::process::Abort;

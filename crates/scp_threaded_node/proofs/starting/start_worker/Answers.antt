@@ -6,7 +6,7 @@ use Rattle.scp_ends.proofs.ends.Tx.TheSendSync as txs
 use Rattle.scp_ends.proofs.ends.Rx.TheSendSync as rxs
 use Rattle.scp_ends.proofs.ends.Done.TheSendSync as dones
 use Rattle.scp_ends.proofs.ends.Nobody.TheSendSync as nobodies
-use Rattle.scp_gate.proofs.Counter.TheSendSync as counters
+use Rattle.scp_ends.proofs.gate.Counter.TheSendSync as counters
 use Rattle.scp_workers.specs.contracts.worker.Worker as worker
 use Rattle.scp_workers.specs.contracts.worker.Worker.TheInside as worker_inside
 use Rattle.scp_workers.specs.contracts.worker.Ended as ended
