@@ -1,3 +1,4 @@
+pub use Rattle.scp_ledger
 pub mod Applied
 pub mod Applier
 pub mod Laws

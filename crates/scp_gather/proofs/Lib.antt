@@ -13,3 +13,6 @@ mod Counting
 mod Hand
 mod Taking
 mod Small
+pub mod Travelling
+pub mod Parts
+pub mod HearingTheirs

@@ -7,3 +7,5 @@ pub mod Count
 pub mod Sending
 pub mod Kv
 pub mod inside
+pub mod Sent
+pub mod Theirs

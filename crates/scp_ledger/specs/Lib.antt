@@ -1,3 +1,4 @@
+pub use Rattle.scp_slot
 pub mod Seen
 pub mod Journal
 pub mod Certificate

@@ -1,3 +1,4 @@
+pub use Rattle.scp_ballot
 pub mod Newest
 pub mod Judged
 pub mod Slot

@@ -1,4 +1,4 @@
-//! The tests of `scp_shared_outbox`, `scp_ends`, `scp_workers` and `scp_courier`, by their public calls.
+//! The tests of `scp_shared_outbox`, `scp_ends`, `scp_workers` and `scp_workers`, by their public calls.
 #![tactic(auto)]
 
 #[cfg(test)]

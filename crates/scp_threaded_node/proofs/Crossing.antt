@@ -68,10 +68,10 @@ use Rattle.scp_ends.proofs.tail.LinkTx.TheSendSync as tails
 use Rattle.scp_ends.proofs.tail.LinkDone.TheSendSync as tails_done
 use Rattle.scp_workers.specs.contracts.reading.ReadingStage as reading
 use Rattle.scp_workers.specs.contracts.slot.SlotStage as slots_stage
-use Rattle.scp_courier.specs.contracts.courier.Courier as courier
-use Rattle.scp_courier.specs.contracts.courier.Courier.TheInside as courier_inside
-use Rattle.scp_courier.specs.contracts.courier.CourierEnded as courier_ended
-use Rattle.scp_courier.specs.contracts.courier.CourierEnded.TheInside as courier_ended_inside
+use Rattle.scp_workers.specs.contracts.courier.Courier as courier
+use Rattle.scp_workers.specs.contracts.courier.Courier.TheInside as courier_inside
+use Rattle.scp_workers.specs.contracts.courier.CourierEnded as courier_ended
+use Rattle.scp_workers.specs.contracts.courier.CourierEnded.TheInside as courier_ended_inside
 
 ruleset plain = (sendable, crosses, maps.crosses)
 

@@ -20,7 +20,7 @@ use Rattle.scp_workers.specs.Reading.{ReaderEnd}
 use Rattle.scp_workers.specs.Pending.{IsFor as PendsFor}
 use Rattle.scp_workers.specs.Slot.{IsFor as JournalsFor}
 use Rattle.scp_workers.specs.Working.{End, Work, Holds, IsLeftOf}
-use Rattle.scp_courier.specs.Carrying.{IsSameLink}
+use Rattle.scp_workers.specs.Carrying.{IsSameLink}
 use Rattle.scp_shared_outbox.specs.Ends.{TakerView}
 use Rattle.scp_gather.specs.Left.{Left}
 use Rattle.scp_pending.specs.Peers.{AreApart}

@@ -8,7 +8,7 @@ use Rattle.scp_wire.specs.declared.link.LinkItem.{LinkItem}
 use Rattle.scp_driver.specs.Driver.{Says}
 use Rattle.scp_apply.specs.Applied.{made_of}
 use Rattle.scp_ends.specs.Links.{LinkEnd}
-use Rattle.scp_courier.specs.Carrying.{IsCarried}
+use Rattle.scp_workers.specs.Carrying.{IsCarried}
 use Rattle.scp_gather.specs.declared.gathering.NodeReport.{NodeReport}
 use Rattle.scp_gather.specs.Left.{Left}
 use Rattle.scp_gather.specs.Report.{IsReportOf, AreFatesOf, AreCame, AreKept, keeps_by}

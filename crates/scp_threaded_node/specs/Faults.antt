@@ -14,8 +14,8 @@ use Rattle.scp_workers.specs.Reading.{ReaderEnd}
 use Rattle.scp_workers.specs.Pending.{PendEnd}
 use Rattle.scp_workers.specs.Slot.{SlotEnd}
 use Rattle.scp_workers.specs.Apply.{ApplyEnd}
-use Rattle.scp_courier.specs.Carrying.{CourierEnd}
-use Rattle.scp_courier.specs.Carrying.{Holds as HoldsCourier}
+use Rattle.scp_workers.specs.Carrying.{CourierEnd}
+use Rattle.scp_workers.specs.Carrying.{Holds as HoldsCourier}
 use Rattle.scp_gather.specs.Report.{has_failed, first_so}
 use Rattle.scp_threaded_node.specs.declared.ending.Stood.{Stood}
 use Rattle.scp_threaded_node.specs.declared.node.Node.{Node}

@@ -8,7 +8,7 @@ use Rattle.scp_shared_outbox.specs.declared.outlets.Outlets.{Outlets}
 use Rattle.scp_ends.specs.Links.{LinkEnd}
 use Rattle.scp_workers.specs.Working.{AreSameOutlets}
 use Rattle.scp_workers.specs.Reading.{ReaderWork}
-use Rattle.scp_courier.specs.Carrying.{HasCarried, IsSameTaker}
+use Rattle.scp_workers.specs.Carrying.{HasCarried, IsSameTaker}
 use Rattle.scp_driver.specs.Driver.{Says}
 use Rattle.scp_gather.specs.Left.{Left}
 use Rattle.scp_gather.specs.Report.{keeps_by}

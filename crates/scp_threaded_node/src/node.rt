@@ -14,12 +14,11 @@ use crate::make::{Lane, Parts};
 use crate::starting::{
     ApplyThread, CourierThread, PendThread, ReaderThread, SlotThread, start_courier, start_worker,
 };
-use scp_courier::Courier;
 use scp_driver::{Application, KvDriver};
 use scp_ends::{Gate, LinkTx, LocalTx};
 use scp_shared_outbox::Taker;
 use scp_types::{Fault, NodeId};
-use scp_workers::{ApplyWorker, SlotWorker};
+use scp_workers::{ApplyWorker, Courier, SlotWorker};
 use std::alloc::Global;
 use std::sync::Wait;
 use std::thread::{Scope, Threads};

@@ -1,10 +1,9 @@
 //! Starting the workers of a node, each in a thread of its own.
 ghost use Rattle.std.specs.Prelude.{◌≡◌, [], IfOk, IsOkUnless};
 ghost use Rattle.scp_workers.specs.Working.{Holds};
-ghost use Rattle.scp_courier.specs.Carrying as carrying;
+ghost use Rattle.scp_workers.specs.Carrying as carrying;
 
 use scp_apply::Applier;
-use scp_courier::{Courier, CourierEnded};
 use scp_driver::KvDriver;
 use scp_ends::{Any, Gate, InWindow, Law};
 use scp_ledger::Onward;
@@ -12,7 +11,7 @@ use scp_pending::{Pending, Ready};
 use scp_shared_outbox::ends_cross_threads;
 use scp_types::Fault;
 use scp_wire::{Inbound, LinkItem};
-use scp_workers::{Ended, Nothing, ReadingStage, SlotStage, Stage, Worker};
+use scp_workers::{Courier, CourierEnded, Ended, Nothing, ReadingStage, SlotStage, Stage, Worker};
 use std::snapshot::Snapshot;
 use std::sync::Wait;
 use std::thread::{Promise, PromisedHandle, Scope, Threads};
@@ -35,7 +34,7 @@ impl<T: Drop, L: Law<T>, U: Drop, M: Law<U>, S: Stage<T, L, U, M>> Promise<Ended
 pub struct HoldsCourier(Snapshot<Courier>);
 
 impl Promise<CourierEnded> for HoldsCourier {
-    ghost use Rattle.scp_courier.specs.Carrying as carrying;
+    ghost use Rattle.scp_workers.specs.Carrying as carrying;
 
     ghost kept_by = { λ p e. carrying.Holds p.0.value e };
 }

@@ -21,9 +21,9 @@ use Rattle.scp_ledger.specs.declared.took.Outgoing.{Outgoing}
 use Rattle.scp_ends.specs.Links.{LinkEnd}
 use Rattle.scp_ends.specs.Order.{values}
 use Rattle.scp_threaded_node.specs.scp_workers.specs.Working.{HavePut, AreSameOutlets}
-use Rattle.scp_courier.specs.Carrying.{HasCarried, IsSameTaker}
-use Rattle.scp_travel.specs.Sent.{WhatIsCarriedIsSentOut, bytes_among}
-use Rattle.scp_travel.specs.Theirs.{AreTheirs, WhatIsReadIsTheirs}
+use Rattle.scp_workers.specs.Carrying.{HasCarried, IsSameTaker}
+use Rattle.scp_gather.specs.Sent.{WhatIsCarriedIsSentOut, bytes_among}
+use Rattle.scp_gather.specs.Theirs.{AreTheirs, WhatIsReadIsTheirs}
 use Rattle.scp_threaded_node.specs.scp_gather.specs.Kv.{NodeReport, Left}
 use Rattle.scp_threaded_node.specs.scp_gather.specs.Left.{items_of}
 use Rattle.scp_script.specs.declared.command.Command.{Command}

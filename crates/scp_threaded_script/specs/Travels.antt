@@ -11,9 +11,9 @@ use Rattle.scp_theorem.specs.Handed.{handed_by}
 use Rattle.scp_theorem.specs.Laws.{AreHandedOut}
 use Rattle.scp_ends.specs.Links.{LinkEnd}
 use Rattle.scp_ends.specs.Order.{values}
-use Rattle.scp_courier.specs.Carrying.{HasCarried}
-use Rattle.scp_travel.specs.Sent.{bytes_among}
-use Rattle.scp_travel.specs.Theirs.{AreTheirs}
+use Rattle.scp_workers.specs.Carrying.{HasCarried}
+use Rattle.scp_gather.specs.Sent.{bytes_among}
+use Rattle.scp_gather.specs.Theirs.{AreTheirs}
 use Rattle.scp_threaded_node.specs.scp_gather.specs.Kv.{Left}
 use Rattle.scp_threaded_node.specs.scp_gather.specs.Sending.{grounds_gathered}
 use Rattle.scp_script.specs.declared.command.Command.{Command}

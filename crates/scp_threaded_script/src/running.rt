@@ -32,13 +32,13 @@ use crate::lines::act_all;
 use crate::outboxes::{all_losses, is_driven, stood_of, stop_all};
 use scp_driver::KvDriver;
 use scp_ends::Gate;
+use scp_gather::{what_is_carried_is_sent_out, what_is_read_is_the_senders_own};
 use scp_script::{Command, count_of_nodes, id_from, peers_of_node, set_of_node};
 use scp_shared_outbox::{Made, Marker, Outlets, Taker, link_of, make_all, peer_at, take_all_back};
 use scp_theorem::what_is_handed_out_may_be_sent;
 use scp_threaded_node::{
     Capacities, Node, NodeReport, Over, Source, Stood, end, make_parts, start,
 };
-use scp_travel::{what_is_carried_is_sent_out, what_is_read_is_the_senders_own};
 use scp_types::Fault;
 use std::alloc::{AllocError, Global};
 use std::sync::Wait;

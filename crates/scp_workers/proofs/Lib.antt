@@ -6,3 +6,5 @@ pub mod Waiting
 pub mod Driving
 pub mod Fates
 pub mod Answering
+pub mod Crossing
+pub mod Carrying

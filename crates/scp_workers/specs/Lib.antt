@@ -5,3 +5,4 @@ pub mod Slot
 pub mod Apply
 pub mod Handing
 pub mod inside
+pub mod Carrying

@@ -4,7 +4,7 @@ use Rattle.scp_shared_outbox.specs.Ends.{TakerView}
 use Rattle.scp_ends.specs.Links.{LinkEnd}
 use Rattle.scp_workers.specs.Working.{Holds}
 use Rattle.scp_workers.specs.Reading.{ReaderEnd}
-use Rattle.scp_courier.specs.Carrying.{IsSameLink}
+use Rattle.scp_workers.specs.Carrying.{IsSameLink}
 use Rattle.scp_gather.specs.Left.{Left}
 use Rattle.scp_threaded_node.specs.declared.node.Node.{Node}
 use Rattle.scp_threaded_node.specs.declared.node.Running.{Running}

@@ -1,5 +1,5 @@
-use Rattle.scp_courier.proofs.Carrying.{carried_then, spelt_then}
-use Rattle.scp_courier.proofs.courier.Courier.take.Goals as goal
+use Rattle.scp_workers.proofs.Carrying.{carried_then, spelt_then}
+use Rattle.scp_workers.proofs.courier.Courier.take.Goals as goal
 
 pub invariant_of-self : goal.invariant_of-self
 invariant_of-self g c =

@@ -11,7 +11,7 @@ use Rattle.scp_wire.specs.declared.side.SideMessage.TheVariants as side
 use Rattle.scp_wire.specs.LinkReading.{unread, readings}
 use Rattle.scp_outbox.specs.Sent.{AreNewer}
 use Rattle.scp_theorem.specs.Grounds.{Grounds, MaySend, IsSentOut}
-use Rattle.scp_travel.specs.Sent.{bytes_among}
+use Rattle.scp_gather.specs.Sent.{bytes_among}
 
 -- a message without a number, as the link message that it is
 abbrev pub as_message : SideMessage → Message

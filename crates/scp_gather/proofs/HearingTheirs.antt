@@ -17,9 +17,9 @@ use Rattle.scp_wire.specs.Message.{message_value, SpellsMessage}
 use Rattle.scp_wire.specs.Reading.{reading_of, SpellingIsRead}
 use Rattle.scp_outbox.specs.Sent.{statement_of, IsStep}
 use Rattle.scp_theorem.specs.Grounds.{Grounds, MaySend}
-use Rattle.scp_travel.specs.Sent.{bytes_among}
-use Rattle.scp_travel.specs.Theirs.{message_by, messages_by, IsWellRead, WhatIsReadIsTheirs, WhatCameFirstIsTheirs}
-use Rattle.scp_travel.proofs.Parts.{IsPartOf, part_all, part_pairs, front_all, front_pairs}
+use Rattle.scp_gather.specs.Sent.{bytes_among}
+use Rattle.scp_gather.specs.Theirs.{message_by, messages_by, IsWellRead, WhatIsReadIsTheirs, WhatCameFirstIsTheirs}
+use Rattle.scp_gather.proofs.Parts.{IsPartOf, part_all, part_pairs, front_all, front_pairs}
 
 -- ---- one message
 

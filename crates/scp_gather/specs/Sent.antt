@@ -6,7 +6,7 @@ use Rattle.scp_wire.specs.declared.message.Message.{Message}
 use Rattle.scp_outbox.specs.declared.mark.Out.{Out}
 use Rattle.scp_shared_outbox.specs.Table.{CameOut}
 use Rattle.scp_ends.specs.Links.{LinkEnd}
-use Rattle.scp_courier.specs.Carrying.{HasCarried}
+use Rattle.scp_workers.specs.Carrying.{HasCarried}
 use Rattle.scp_theorem.specs.Grounds.{Grounds, IsSentOut}
 use Rattle.scp_theorem.specs.Laws.{MayGo}
 

@@ -2,7 +2,7 @@
 ghost use Rattle.std.specs.Prelude.{◌≡◌, ◌↔◌, [], ◌∷◌, ◌++◌, true, false, IsTrue, IsSome, IfSome, MatchBool};
 ghost use Rattle.scp_outbox.specs.declared.mark.Mark.TheVariants as mark;
 ghost use Rattle.scp_outbox.specs.declared.mark.Out.TheVariants as out;
-ghost use Rattle.scp_courier.specs.Carrying.{Carries, EndAtStop, HasCarried, HaveNoStop, Holds, IsCarried, IsSameLink, IsSameTaker, is_stop};
+ghost use Rattle.scp_workers.specs.Carrying.{Carries, EndAtStop, HasCarried, HaveNoStop, Holds, IsCarried, IsSameLink, IsSameTaker, is_stop};
 
 use scp_ends::{Counter, Gate, LinkDone, LinkTx, Stage};
 use scp_outbox::{Mark, Out};
@@ -25,7 +25,7 @@ pub struct Courier {
 
 impl Model for Courier {
     ghost use Rattle.std.specs.Prelude.{◌≡◌, false};
-    ghost use Rattle.scp_courier.specs.Carrying.{CourierWorking, AreSpelt, Carried, unsent};
+    ghost use Rattle.scp_workers.specs.Carrying.{CourierWorking, AreSpelt, Carried, unsent};
     ghost use Rattle.std.specs.Coded.{codes};
     ghost use Rattle.scp_xdr.specs.inside.TreeModel.{coded_row};
     ghost use Rattle.scp_quorum.specs.inside.QuorumTree.{coded_level};
@@ -50,7 +50,7 @@ pub struct CourierEnded {
 
 impl Model for CourierEnded {
     ghost use Rattle.std.specs.Prelude.{IfSome};
-    ghost use Rattle.scp_courier.specs.Carrying.{CourierEnd, HasCarried, IsCarried};
+    ghost use Rattle.scp_workers.specs.Carrying.{CourierEnd, HasCarried, IsCarried};
     ghost use Rattle.std.specs.Coded.{codes};
     ghost use Rattle.scp_xdr.specs.inside.TreeModel.{coded_row};
     ghost use Rattle.scp_quorum.specs.inside.QuorumTree.{coded_level};

@@ -4,7 +4,7 @@ use Rattle.std.proofs.Crossing.{crosses}
 use Rattle.scp_shared_outbox.specs.Crossing.{EndsCross}
 use Rattle.scp_ends.specs.contracts.tail.LinkTx as tail
 use Rattle.scp_ends.proofs.tail.LinkTx.TheSendSync.{the_send}
-use Rattle.scp_courier.specs.contracts.courier.Courier as courier
+use Rattle.scp_workers.specs.contracts.courier.Courier as courier
 
 tail_send : IsSend tail.the_row
 tail_send = search (sendable, crosses, the_send) depth 40

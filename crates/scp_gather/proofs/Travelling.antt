@@ -16,10 +16,10 @@ use Rattle.scp_outbox.specs.Sent.{statement_of}
 use Rattle.scp_shared_outbox.specs.Laws.{messages_of, GivenWasPut, StatementsGoInOrder}
 use Rattle.scp_shared_outbox.specs.Table.{by_three}
 use Rattle.scp_ends.specs.Links.{LinkEnd, conn_now, conn_next, with_item}
-use Rattle.scp_courier.specs.Carrying.{Tells, Carried, unsent}
+use Rattle.scp_workers.specs.Carrying.{Tells, Carried, unsent}
 use Rattle.scp_theorem.specs.Grounds.{Grounds, MaySend}
 use Rattle.scp_theorem.specs.Laws.{MayAnswer, MayGo}
-use Rattle.scp_travel.specs.Sent.{bytes_on, bytes_among, WhatIsCarriedIsSentOut}
+use Rattle.scp_gather.specs.Sent.{bytes_on, bytes_among, WhatIsCarriedIsSentOut}
 
 -- ---- what was given
 

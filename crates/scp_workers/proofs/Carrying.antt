@@ -6,7 +6,7 @@ use Rattle.scp_outbox.specs.declared.mark.Out.{Out}
 use Rattle.scp_outbox.specs.declared.mark.Out.TheVariants as out
 use Rattle.scp_ends.specs.Links.{LinkEnd}
 use Rattle.scp_shared_outbox.specs.Ends.{TakerView}
-use Rattle.scp_courier.specs.Carrying.{IsSpelt, AreSpelt, Carries, Carried, HaveNoStop, IsSameLink, is_stop, unsent}
+use Rattle.scp_workers.specs.Carrying.{IsSpelt, AreSpelt, Carries, Carried, HaveNoStop, IsSameLink, is_stop, unsent}
 
 pub carried_more : (xs : List Out) (x : Out) (first old new : LinkEnd) → Carried xs first old → Carries x old new → Carried (xs ++ x ∷ []) first new
 carried_more [] x first old new e c = (new, subst (λ (k : LinkEnd). Carries x k new) e c, refl)

@@ -1,6 +1,6 @@
 //! Laws of what travels, each the contract of a function that does nothing.
-ghost use Rattle.scp_travel.specs.Sent.{WhatIsCarriedIsSentOut};
-ghost use Rattle.scp_travel.specs.Theirs.{WhatCameFirstIsTheirs, WhatIsReadIsTheirs};
+ghost use Rattle.scp_gather.specs.Sent.{WhatIsCarriedIsSentOut};
+ghost use Rattle.scp_gather.specs.Theirs.{WhatCameFirstIsTheirs, WhatIsReadIsTheirs};
 
 use scp_shared_outbox::{statements_are_given_in_order, what_is_given_was_put};
 use scp_wire::what_is_spelt_is_read;

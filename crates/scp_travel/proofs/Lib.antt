@@ -1,3 +1,0 @@
-pub mod Travelling
-pub mod Parts
-pub mod Hearing
