@@ -2,10 +2,10 @@
 use Rattle.std.proofs.Common.{◌≡◌, ◌+◌, ◌<◌, ℕ, List, [], ◌++◌, Some, length, get_or, nat_eq, refl, sym, ◌∙◌, ap, subst, arith, map-id}
 use Rattle.std.specs.Prelude.{if◌then◌else◌}
 use Rattle.std.proofs.lemmas.Option.{same_Some, slice_get-get_or, slice_get_within}
-use Rattle.scp_line.specs.scp_network.specs.scp_core.specs.Kv.{NodeView}
-use Rattle.scp_line.specs.scp_network.specs.scp_turn.specs.Commands.{TakenCommand, taken_by, AreInTurn}
-use Rattle.scp_line.specs.scp_network.specs.scp_turn.specs.Kv.{taken_over}
-use Rattle.scp_line.specs.scp_network.specs.Heard.{past_at}
+use Rattle.scp_line.specs.scp_turn.specs.scp_core.specs.Kv.{NodeView}
+use Rattle.scp_line.specs.scp_turn.specs.Commands.{TakenCommand, taken_by, AreInTurn}
+use Rattle.scp_line.specs.scp_turn.specs.Kv.{taken_over}
+use Rattle.scp_line.specs.scp_turn.specs.Heard.{past_at}
 use Rattle.scp_line.specs.Commands.{commands_to, FatesAreOfTheirLines}
 use Rattle.scp_line.proofs.Turns.{Went, NotesTaken, went}
 use Rattle.scp_facts.specs.declared.happening.Kept.{Kept}

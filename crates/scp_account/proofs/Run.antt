@@ -1,6 +1,6 @@
 -- What a watch kept of a script's run is what happened in it.
 use Rattle.std.proofs.Common.{◌≡◌, ◌∙◌, ℕ, false, List, [], ◌∷◌, refl, sym, ap, subst}
-use Rattle.scp_line.specs.scp_network.specs.Heard.{Nodes, Heard, Noted}
+use Rattle.scp_line.specs.scp_turn.specs.Heard.{Nodes, Heard, Noted}
 use Rattle.scp_line.specs.declared.watch.Steps.{Steps}
 use Rattle.scp_line.proofs.Runs.{quiet_lines}
 use Rattle.scp_facts.specs.declared.happening.Kept.{Kept}

@@ -1,7 +1,7 @@
 -- What is kept of a script's run, for its account.
 use Rattle.std.specs.Prelude.{ℕ, ◌≡◌, false, List, []}
-use Rattle.scp_line.specs.scp_network.specs.Heard.{Nodes, Noted}
-use Rattle.scp_line.specs.scp_network.specs.Network.{NetworkView}
+use Rattle.scp_line.specs.scp_turn.specs.Heard.{Nodes, Noted}
+use Rattle.scp_line.specs.scp_turn.specs.Network.{NetworkView}
 use Rattle.scp_script.specs.declared.command.Command.{Command}
 use Rattle.scp_line.specs.declared.watch.Steps.{Steps}
 use Rattle.scp_line.specs.Nodes.{HasPlayed}

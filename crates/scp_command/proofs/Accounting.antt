@@ -4,7 +4,7 @@ use Rattle.std.specs.Prelude.{◌≢◌, ◌⊎◌, All, None, Result, Ok, Err, 
 use Rattle.scp_types.specs.declared.fault.Fault.{Fault}
 use Rattle.scp_types.specs.declared.fault.Fault.TheVariants as faults
 use Rattle.scp_gather.specs.Kv.{NodeReport}
-use Rattle.scp_network.specs.Network.{NetworkView}
+use Rattle.scp_turn.specs.Network.{NetworkView}
 use Rattle.scp_script.specs.declared.command.Command.{Command}
 use Rattle.scp_notices.specs.scp_line.specs.declared.playing.PlayFault.{PlayFault}
 use Rattle.scp_threaded_script.specs.Reported.{AreNodesReported}

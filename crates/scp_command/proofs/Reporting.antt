@@ -3,7 +3,7 @@ use Rattle.std.proofs.Common.{◌≡◌, ◌∙◌, ℕ, List, [], map, string_b
 use Rattle.std.specs.Prelude.{Result, Ok, Err, IfOk, IsOk}
 use Rattle.scp_types.specs.declared.fault.Fault.{Fault}
 use Rattle.scp_gather.specs.Kv.{NodeReport}
-use Rattle.scp_network.specs.Network.{NetworkView}
+use Rattle.scp_turn.specs.Network.{NetworkView}
 use Rattle.scp_prompt.specs.declared.asked.Shape.{Shape}
 use Rattle.scp_prompt.specs.declared.failure.Failure.{Failure}
 use Rattle.scp_script_check.specs.declared.reading.Script.{Script}

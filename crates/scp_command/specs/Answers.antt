@@ -2,8 +2,8 @@
 use Rattle.std.specs.Prelude.{ℕ, ◌≡◌, ◌==◌, Bool, true, false, List, [], ◌∷◌, ◌++◌, map, flat_map, None, codes, string_bytes}
 use Rattle.std.specs.List.{slice_split}
 use Rattle.scp_gather.specs.Kv.{NodeReport}
-use Rattle.scp_network.specs.Heard.{Nodes}
-use Rattle.scp_network.specs.Network.{NetworkView}
+use Rattle.scp_turn.specs.Heard.{Nodes}
+use Rattle.scp_turn.specs.Network.{NetworkView}
 use Rattle.scp_script.specs.declared.command.Command.{Command}
 use Rattle.scp_notices.specs.scp_line.specs.Headlines.{AreNodesHeadlined, AreReportsHeadlined}
 use Rattle.scp_account.specs.declared.node.Mode.TheVariants as ways

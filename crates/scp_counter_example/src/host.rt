@@ -1,13 +1,13 @@
 //! The host of a node: it tells the node what comes, and carries what goes out.
 ghost use Rattle.std.specs.Prelude.{◌≡◌, true, Some, None, if◌then◌else◌};
 ghost use Rattle.scp_apply.specs.Applied.{made_of};
-ghost use Rattle.scp_episode.specs.Episode.{IsOfHost};
+ghost use Rattle.scp_turn.specs.Episode.{IsOfHost};
 ghost use Rattle.scp_counter_example.specs.inside.Counter.{after_number};
 
 use crate::counter::Counter;
 use scp_core::{Bytes, Capacities, Command, Config, Event, Node, Peers, SharedDecision, Timer};
-use scp_episode::{Sending, play};
 use scp_quorum::QuorumSet;
+use scp_turn::{Sending, play};
 use scp_types::{Fault, NodeId, Slot};
 use std::alloc::Global;
 

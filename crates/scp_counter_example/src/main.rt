@@ -12,7 +12,7 @@ mod host;
 use counter::{Counter, number_of, value_of};
 use host::Host;
 use scp_core::{Application, Bytes, Command, Event};
-use scp_episode::Sending;
+use scp_turn::Sending;
 use scp_types::{Fault, Slot};
 use std::alloc::Global;
 use std::collections::VecDeque;

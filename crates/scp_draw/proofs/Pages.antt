@@ -2,7 +2,7 @@
 use Rattle.std.proofs.Common.{◌≡◌, ◌+◌, ◌++◌, ◌∷◌, ◌∙◌, [], ℕ, suc, List, None, inl, length, map, sym, ap, refl, subst}
 use Rattle.std.specs.Prelude.{Option, Some, option_to_list}
 use Rattle.scp_core.specs.Kv.{NodeView}
-use Rattle.scp_network.specs.Network.{NetworkView}
+use Rattle.scp_turn.specs.Network.{NetworkView}
 use Rattle.scp_script.specs.declared.command.Command.{Command}
 use Rattle.scp_script.specs.Words.{words_of}
 use Rattle.scp_script.specs.Script.{command_in, commands_of, node_count}

@@ -1,7 +1,7 @@
 -- A script is played line by line, and told.
 use Rattle.std.proofs.Common.{◌≡◌, ◌≢◌, ◌∙◌, ℕ, Bool, true, false, List, [], ◌∷◌, ◌++◌, sym, ap, subst, inl, inr}
 use Rattle.scp_types.specs.declared.fault.Fault.TheVariants.{NoMemory}
-use Rattle.scp_network.specs.Network.{NetworkView}
+use Rattle.scp_turn.specs.Network.{NetworkView}
 use Rattle.scp_script.specs.declared.command.Command.{Command}
 use Rattle.scp_trace.specs.scp_line.specs.declared.player.Stopped.{Stopped}
 use Rattle.scp_trace.specs.scp_line.specs.Player.{Lining, lining, IsRun, IsCutOff, IsStoppedBy}

@@ -1,7 +1,7 @@
 -- The page of a script's run (this project's profile).
 use Rattle.std.specs.Prelude.{ℕ, ◌≡◌, ◌≢◌, List, ◌++◌}
 use Rattle.scp_types.specs.declared.fault.Fault.TheVariants.{NoMemory as no_memory}
-use Rattle.scp_network.specs.Network.{NetworkView}
+use Rattle.scp_turn.specs.Network.{NetworkView}
 use Rattle.scp_script.specs.declared.command.Command.{Command}
 use Rattle.scp_script.specs.Script.{node_count}
 use Rattle.scp_trace.specs.scp_line.specs.declared.playing.PlayFault.{PlayFault}

@@ -1,6 +1,6 @@
 -- What is drawn of the lines of a script (this project's profile).
 use Rattle.std.specs.Prelude.{ℕ, ◌≡◌, List, [], ◌∷◌, ◌++◌, Option, Some, None}
-use Rattle.scp_network.specs.Network.{NetworkView}
+use Rattle.scp_turn.specs.Network.{NetworkView}
 use Rattle.scp_script.specs.declared.command.Command.{Command}
 use Rattle.scp_trace.specs.scp_line.specs.declared.player.Stopped.{Stopped}
 use Rattle.scp_trace.specs.scp_line.specs.Player.{Lining, IsRun, IsCutOff}

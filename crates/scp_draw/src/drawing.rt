@@ -15,11 +15,11 @@ ghost use Rattle.scp_draw.specs.inside.Refusing.{IsCauseOf};
 use crate::page::{Run, write_page};
 use crate::playing::play_told;
 use scp_facts::Telling;
-use scp_network::Network;
 use scp_script::count_of_nodes;
 use scp_script_check::{ReadFault, Script, read};
 use scp_stand_slot::Names;
 use scp_trace::{PlayFault, Playing, a_script_has_room, write_end, write_warnings};
+use scp_turn::Network;
 use scp_types::Fault;
 use std::alloc::Global;
 

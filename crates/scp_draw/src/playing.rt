@@ -7,10 +7,9 @@ ghost use Rattle.scp_draw.specs.Lines.{IsToldTo};
 ghost use Rattle.scp_draw.specs.inside.Leaving.{IsLeft};
 
 use scp_facts::{FactWatch, Telling, a_step_is_told_as_it_happened};
-use scp_network::Network;
 use scp_script::Command;
 use scp_trace::{LineWatch, Stopped, new_network, play_lines};
-use scp_turn::{Event, KvDriver, Node, Reply, Watch};
+use scp_turn::{Event, KvDriver, Network, Node, Reply, Watch};
 use scp_types::Fault;
 use std::alloc::Global;
 

@@ -1,16 +1,16 @@
 -- What a line's event is answered with: it is taken, or its queue is full.
 use Rattle.std.proofs.Common.{◌≡◌, ◌≢◌, ◌<◌, ◌≤◌, ◌-◌, ℕ, Bool, true, false, List, [], Option, Some, None, length, refl, sym, ◌∙◌, ap, subst, arith}
 use Rattle.std.specs.Prelude.{slice_get, IsSome}
-use Rattle.scp_network.specs.scp_core.specs.declared.event.Event.{Event}
-use Rattle.scp_network.specs.scp_core.specs.declared.event.Event.TheVariants as event
-use Rattle.scp_network.specs.scp_core.specs.declared.event.Reply.{Reply}
-use Rattle.scp_network.specs.scp_core.specs.declared.event.Reply.TheVariants.{Failed, NoLink, AlreadyOpen, LivesSpent, NotOpen, Full, Accepted, Blocked, Idle, Moved, Sent, JournalFull, NoMemory}
-use Rattle.scp_network.specs.scp_core.specs.Node.{LinkView, HasLink, is_full}
-use Rattle.scp_network.specs.scp_core.specs.Kv.{NodeView, Step}
+use Rattle.scp_turn.specs.scp_core.specs.declared.event.Event.{Event}
+use Rattle.scp_turn.specs.scp_core.specs.declared.event.Event.TheVariants as event
+use Rattle.scp_turn.specs.scp_core.specs.declared.event.Reply.{Reply}
+use Rattle.scp_turn.specs.scp_core.specs.declared.event.Reply.TheVariants.{Failed, NoLink, AlreadyOpen, LivesSpent, NotOpen, Full, Accepted, Blocked, Idle, Moved, Sent, JournalFull, NoMemory}
+use Rattle.scp_turn.specs.scp_core.specs.Node.{LinkView, HasLink, is_full}
+use Rattle.scp_turn.specs.scp_core.specs.Kv.{NodeView, Step}
 use Rattle.scp_wire.specs.Shape.{Tail}
 use Rattle.scp_wire.specs.declared.link.Command.{Command as Local}
-use Rattle.scp_network.specs.Heard.{Nodes}
-use Rattle.scp_network.specs.Rounds.{link_of}
+use Rattle.scp_turn.specs.Heard.{Nodes}
+use Rattle.scp_turn.specs.Rounds.{link_of}
 use Rattle.scp_script.specs.declared.command.Command.{Command}
 use Rattle.scp_script.specs.declared.command.Command.TheVariants as script
 use Rattle.scp_script.specs.Script.{node_count, is_open, lives, IsNode, IsLink, Admits, AreAdmitted}

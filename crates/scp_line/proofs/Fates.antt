@@ -18,11 +18,11 @@ use Rattle.scp_ledger.specs.By.{TellsBy}
 use Rattle.scp_ledger.specs.CommandFates.{IsProposalFate, IsRoundFate, IsTimerFate, IsAskFate, TellsCommand}
 use Rattle.scp_ledger.specs.Runs.{Taking, things}
 use Rattle.scp_ledger.specs.Seen.{LedgerView}
-use Rattle.scp_network.specs.scp_core.specs.declared.event.Event.TheVariants.{SlotTake}
-use Rattle.scp_network.specs.scp_turn.specs.Commands.{TakenCommand, with_fate, command_taken, front_taken, commands_taken, fates_taken, taken_at, AreInTurn}
-use Rattle.scp_network.specs.scp_core.specs.Kv.{NodeView, Moves}
-use Rattle.scp_network.specs.scp_turn.specs.Kv.{taken_over, AllIsTakenInTurn}
-use Rattle.scp_network.specs.Heard.{past_at}
+use Rattle.scp_turn.specs.scp_core.specs.declared.event.Event.TheVariants.{SlotTake}
+use Rattle.scp_turn.specs.Commands.{TakenCommand, with_fate, command_taken, front_taken, commands_taken, fates_taken, taken_at, AreInTurn}
+use Rattle.scp_turn.specs.scp_core.specs.Kv.{NodeView, Moves}
+use Rattle.scp_turn.specs.Kv.{taken_over, AllIsTakenInTurn}
+use Rattle.scp_turn.specs.Heard.{past_at}
 use Rattle.scp_threaded_script.specs.scp_threaded_node.specs.scp_workers.specs.Slot.{fates_of, TellsEach}
 use Rattle.scp_threaded_script.specs.Lines.{commands_for}
 use Rattle.scp_line.specs.Commands.{taken_among, FatesAreOfTheirLines, ReportedAreOfTheirLines}

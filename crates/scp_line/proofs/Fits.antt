@@ -11,11 +11,11 @@ use Rattle.scp_types.specs.declared.fault.Fault.{Fault}
 use Rattle.scp_types.specs.declared.fault.Fault.TheVariants.{NoMemory, BadConfig}
 use Rattle.scp_quorum.specs.QuorumTree.{QuorumTree}
 use Rattle.scp_quorum.specs.Sane.{IsSane}
-use Rattle.scp_network.specs.scp_core.specs.declared.config.Config.{Config}
+use Rattle.scp_turn.specs.scp_core.specs.declared.config.Config.{Config}
 use Rattle.scp_theorem.specs.Fates.{is_among}
 use Rattle.scp_types.specs.Range.{IsInRange}
-use Rattle.scp_network.specs.scp_core.specs.Config.{AreInRange, IsFitWithin, IsConfig, are_apart}
-use Rattle.scp_network.specs.scp_core.specs.Kv.{NodeView}
+use Rattle.scp_turn.specs.scp_core.specs.Config.{AreInRange, IsFitWithin, IsConfig, are_apart}
+use Rattle.scp_turn.specs.scp_core.specs.Kv.{NodeView}
 use Rattle.scp_script.specs.declared.command.Command.{Command}
 use Rattle.scp_script.specs.declared.command.Command.TheVariants.{Caps, Nodes, Set, Open, Close, Send, Propose, Round, Timer, Tick, Ask, Settle, Wait, Report}
 use Rattle.scp_script.specs.declared.command.Capacities.{Capacities}

@@ -8,15 +8,15 @@ use Rattle.scp_wire.specs.declared.link.Command.{Command as LocalCommand}
 use Rattle.scp_wire.specs.declared.link.Command.TheVariants as local
 use Rattle.scp_wire.specs.declared.link.Inbound.TheVariants.{Local}
 use Rattle.scp_pending.specs.Endings.{passing, passing_command, commands_in}
-use Rattle.scp_network.specs.scp_core.specs.declared.event.Event.{Event}
-use Rattle.scp_network.specs.scp_core.specs.declared.event.Event.TheVariants as event
-use Rattle.scp_network.specs.scp_core.specs.declared.event.Reply.{Reply}
-use Rattle.scp_network.specs.scp_core.specs.declared.event.Reply.TheVariants.{Full, Accepted, Sent}
-use Rattle.scp_network.specs.scp_turn.specs.Commands.{command_given, given_by, given_in}
-use Rattle.scp_network.specs.scp_core.specs.History.{Exchange}
-use Rattle.scp_network.specs.scp_turn.specs.Turn.{reader_events, stage_events}
-use Rattle.scp_network.specs.Heard.{Nodes, Heard, exchange_at, past_at, IsOne, InOrder}
-use Rattle.scp_network.specs.Rounds.{link_of, drain_of, send_of, HearsAll, Carries, IsTurn, IsRound, IsMovingRound, AreRounds, RestsAs}
+use Rattle.scp_turn.specs.scp_core.specs.declared.event.Event.{Event}
+use Rattle.scp_turn.specs.scp_core.specs.declared.event.Event.TheVariants as event
+use Rattle.scp_turn.specs.scp_core.specs.declared.event.Reply.{Reply}
+use Rattle.scp_turn.specs.scp_core.specs.declared.event.Reply.TheVariants.{Full, Accepted, Sent}
+use Rattle.scp_turn.specs.Commands.{command_given, given_by, given_in}
+use Rattle.scp_turn.specs.scp_core.specs.History.{Exchange}
+use Rattle.scp_turn.specs.Turn.{reader_events, stage_events}
+use Rattle.scp_turn.specs.Heard.{Nodes, Heard, exchange_at, past_at, IsOne, InOrder}
+use Rattle.scp_turn.specs.Rounds.{link_of, drain_of, send_of, HearsAll, Carries, IsTurn, IsRound, IsMovingRound, AreRounds, RestsAs}
 use Rattle.scp_threaded_script.specs.Lines.{command_by, commands_for, link_of as link_to}
 use Rattle.scp_script.specs.declared.command.Command.{Command}
 use Rattle.scp_script.specs.declared.command.Command.TheVariants as script

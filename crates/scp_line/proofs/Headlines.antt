@@ -1,8 +1,8 @@
 -- What is printed of a script is of nodes that hold their headlines.
 use Rattle.std.proofs.Common.{◌≡◌, ◌+◌, ◌∙◌, ℕ, List, [], get_or, ap, subst}
-use Rattle.scp_network.specs.scp_core.specs.Kv.{LedgerGivesHeadline, TheoremGivesLedger}
-use Rattle.scp_network.specs.Heard.{past_at}
-use Rattle.scp_network.specs.Network.{NetworkView}
+use Rattle.scp_turn.specs.scp_core.specs.Kv.{LedgerGivesHeadline, TheoremGivesLedger}
+use Rattle.scp_turn.specs.Heard.{past_at}
+use Rattle.scp_turn.specs.Network.{NetworkView}
 use Rattle.scp_threaded_script.specs.scp_gather.specs.Kv.{NodeReport, ReportsKeepHeadline, Left}
 use Rattle.scp_threaded_script.specs.scp_threaded_node.specs.Seats.{Each}
 use Rattle.scp_threaded_script.specs.Reported.{AreNodesReported, AreSoReported}

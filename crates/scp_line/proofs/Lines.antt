@@ -5,17 +5,17 @@ use Rattle.std.proofs.lemmas.Bool.Decides.{nat_tests}
 use Rattle.std.proofs.lemmas.Option.{slice_get_within}
 use Rattle.scp_types.specs.declared.fault.Fault.TheVariants.{Failed as failing, Full as full}
 use Rattle.scp_wire.specs.Shape.{Tail}
-use Rattle.scp_network.specs.scp_core.specs.declared.event.Event.{Event}
-use Rattle.scp_network.specs.scp_core.specs.declared.event.Event.TheVariants as event
-use Rattle.scp_network.specs.scp_core.specs.declared.event.Reply.{Reply}
-use Rattle.scp_network.specs.scp_core.specs.declared.event.Reply.TheVariants.{Failed, NoLink, AlreadyOpen, LivesSpent, NotOpen, Full, Accepted, Blocked, Idle, Moved, Sent, JournalFull, NoMemory}
-use Rattle.scp_network.specs.scp_core.specs.Node.{Accepts}
-use Rattle.scp_network.specs.scp_core.specs.Kv.{NodeView, Step}
-use Rattle.scp_network.specs.scp_turn.specs.Kv.{Noting}
-use Rattle.scp_network.specs.Heard.{Nodes, Heard, IsHeard, HaveHeard, Then, Noted, With}
-use Rattle.scp_network.specs.Rounds.{RestsAs, Breaks, AllRun, HasFailed, link_of}
-use Rattle.scp_network.proofs.Hearing.{noted_on}
-use Rattle.scp_network.specs.Network.{Hear, NetworkView}
+use Rattle.scp_turn.specs.scp_core.specs.declared.event.Event.{Event}
+use Rattle.scp_turn.specs.scp_core.specs.declared.event.Event.TheVariants as event
+use Rattle.scp_turn.specs.scp_core.specs.declared.event.Reply.{Reply}
+use Rattle.scp_turn.specs.scp_core.specs.declared.event.Reply.TheVariants.{Failed, NoLink, AlreadyOpen, LivesSpent, NotOpen, Full, Accepted, Blocked, Idle, Moved, Sent, JournalFull, NoMemory}
+use Rattle.scp_turn.specs.scp_core.specs.Node.{Accepts}
+use Rattle.scp_turn.specs.scp_core.specs.Kv.{NodeView, Step}
+use Rattle.scp_turn.specs.Kv.{Noting}
+use Rattle.scp_turn.specs.Heard.{Nodes, Heard, IsHeard, HaveHeard, Then, Noted, With}
+use Rattle.scp_turn.specs.Rounds.{RestsAs, Breaks, AllRun, HasFailed, link_of}
+use Rattle.scp_turn.proofs.Hearing.{noted_on}
+use Rattle.scp_turn.specs.Network.{Hear, NetworkView}
 use Rattle.scp_script.specs.declared.command.Command.{Command}
 use Rattle.scp_script.specs.declared.command.Command.TheVariants as script
 use Rattle.scp_script.specs.Script.{node_count}

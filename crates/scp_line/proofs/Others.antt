@@ -10,11 +10,11 @@ use Rattle.scp_types.specs.declared.limits.TheConstants.{NODE_LIMIT}
 use Rattle.scp_types.specs.declared.names.NodeId.{NodeId}
 use Rattle.scp_types.specs.declared.fault.Fault.{Fault}
 use Rattle.scp_types.specs.declared.fault.Fault.TheVariants.{NoMemory, BadConfig}
-use Rattle.scp_network.specs.scp_core.specs.declared.config.Config.{Config}
-use Rattle.scp_network.specs.scp_core.specs.Kv.{NodeView}
-use Rattle.scp_network.specs.Heard.{Nodes}
-use Rattle.scp_network.specs.Network.{NetworkView}
-use Rattle.scp_network.specs.Linked.{ids_of, IsNetwork}
+use Rattle.scp_turn.specs.scp_core.specs.declared.config.Config.{Config}
+use Rattle.scp_turn.specs.scp_core.specs.Kv.{NodeView}
+use Rattle.scp_turn.specs.Heard.{Nodes}
+use Rattle.scp_turn.specs.Network.{NetworkView}
+use Rattle.scp_turn.specs.Linked.{ids_of, IsNetwork}
 use Rattle.scp_script.specs.declared.command.Command.{Command}
 use Rattle.scp_script.specs.Nodes.{numbers, id_of, peers_of}
 use Rattle.scp_line.specs.Play.{AreNew}

@@ -5,13 +5,13 @@ use Rattle.std.proofs.Math.Seq.{take-length}
 use Rattle.std.proofs.lemmas.List.{take_more, take-append-drop, length-set}
 use Rattle.scp_types.specs.declared.fault.Fault.{Fault}
 use Rattle.scp_types.specs.declared.fault.Fault.TheVariants.{NoMemory, Failed as failing, Full as full_fault}
-use Rattle.scp_network.specs.scp_core.specs.declared.event.Event.{Event}
-use Rattle.scp_network.specs.scp_core.specs.declared.event.Reply.{Reply}
-use Rattle.scp_network.specs.scp_core.specs.Kv.{NodeView}
-use Rattle.scp_network.specs.scp_turn.specs.Kv.{Noting}
-use Rattle.scp_network.specs.Heard.{Nodes, Heard, Noted}
-use Rattle.scp_network.specs.Network.{NetworkView}
-use Rattle.scp_network.proofs.Hearing.{noted_on}
+use Rattle.scp_turn.specs.scp_core.specs.declared.event.Event.{Event}
+use Rattle.scp_turn.specs.scp_core.specs.declared.event.Reply.{Reply}
+use Rattle.scp_turn.specs.scp_core.specs.Kv.{NodeView}
+use Rattle.scp_turn.specs.Kv.{Noting}
+use Rattle.scp_turn.specs.Heard.{Nodes, Heard, Noted}
+use Rattle.scp_turn.specs.Network.{NetworkView}
+use Rattle.scp_turn.proofs.Hearing.{noted_on}
 use Rattle.scp_script.specs.declared.command.Command.{Command}
 use Rattle.scp_script.specs.Script.{AreAdmitted, node_count}
 use Rattle.scp_script.specs.Nodes.{NamesNodes}

@@ -3,10 +3,10 @@ use Rattle.std.proofs.Common.{◌≡◌, ◌<◌, ◌+◌, ℕ, suc, Bool, List,
 use Rattle.std.specs.Prelude.{All, IfSome, ◌≤◌}
 use Rattle.std.proofs.lemmas.List.{take-append-drop}
 use Rattle.scp_types.specs.declared.limits.TheConstants.{SCRIPT_LIMIT}
-use Rattle.scp_network.specs.scp_core.specs.Kv.{TheoremGivesLedger}
-use Rattle.scp_network.specs.scp_turn.specs.Kv.{Noting}
-use Rattle.scp_network.specs.Heard.{Heard, past_at}
-use Rattle.scp_network.specs.Network.{NetworkView}
+use Rattle.scp_turn.specs.scp_core.specs.Kv.{TheoremGivesLedger}
+use Rattle.scp_turn.specs.Kv.{Noting}
+use Rattle.scp_turn.specs.Heard.{Heard, past_at}
+use Rattle.scp_turn.specs.Network.{NetworkView}
 use Rattle.scp_script.specs.declared.command.Command.{Command}
 use Rattle.scp_script.specs.Script.{AreAdmitted, IsScript, commands_in}
 use Rattle.scp_script.specs.Nodes.{NamesNodes}

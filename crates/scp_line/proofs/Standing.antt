@@ -9,7 +9,7 @@ use Rattle.scp_script.specs.declared.command.Command.TheVariants as script
 use Rattle.scp_script.specs.Script.{counted, node_count, Admits, AreAdmitted}
 use Rattle.scp_script.specs.Nodes.{NamesNodes}
 use Rattle.scp_script.proofs.Admitted.{admitted_front, admitted_rest, count_stays, names_at}
-use Rattle.scp_network.specs.Rounds.{link_of}
+use Rattle.scp_turn.specs.Rounds.{link_of}
 
 -- where a command stands in a script
 pub record StandsAt (commands done : List Command) (command : Command) : Type 0 where

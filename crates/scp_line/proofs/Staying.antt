@@ -4,15 +4,15 @@ use Rattle.std.specs.Prelude.{slice_get, slice_set}
 use Rattle.std.specs.List.{AllByRecursion}
 use Rattle.std.proofs.lemmas.List.{length-set, map-set}
 use Rattle.scp_types.specs.declared.limits.TheConstants.{ROUND_LIMIT}
-use Rattle.scp_network.specs.scp_core.specs.declared.event.Event.{Event}
-use Rattle.scp_network.specs.scp_core.specs.declared.event.Event.TheVariants as event
-use Rattle.scp_network.specs.scp_core.specs.declared.event.Reply.{Reply}
-use Rattle.scp_network.specs.scp_core.specs.declared.event.Reply.TheVariants.{Failed, NoLink, AlreadyOpen, LivesSpent, NotOpen, Full, Accepted, Blocked, Idle, Moved, Sent, JournalFull, NoMemory}
-use Rattle.scp_network.specs.scp_core.specs.Node.{LinkView, Accepts, SendsOut}
-use Rattle.scp_network.specs.scp_core.specs.Kv.{NodeView, Step, Moves}
-use Rattle.scp_network.specs.Heard.{Nodes, Heard, IsHeard, IsOne, InOrder}
-use Rattle.scp_network.specs.scp_turn.specs.Turn.{reader_events, stage_events}
-use Rattle.scp_network.specs.Rounds.{HearsAll, Carries, IsTurn, IsRound, AreRounds, IsMovingRound, Rests}
+use Rattle.scp_turn.specs.scp_core.specs.declared.event.Event.{Event}
+use Rattle.scp_turn.specs.scp_core.specs.declared.event.Event.TheVariants as event
+use Rattle.scp_turn.specs.scp_core.specs.declared.event.Reply.{Reply}
+use Rattle.scp_turn.specs.scp_core.specs.declared.event.Reply.TheVariants.{Failed, NoLink, AlreadyOpen, LivesSpent, NotOpen, Full, Accepted, Blocked, Idle, Moved, Sent, JournalFull, NoMemory}
+use Rattle.scp_turn.specs.scp_core.specs.Node.{LinkView, Accepts, SendsOut}
+use Rattle.scp_turn.specs.scp_core.specs.Kv.{NodeView, Step, Moves}
+use Rattle.scp_turn.specs.Heard.{Nodes, Heard, IsHeard, IsOne, InOrder}
+use Rattle.scp_turn.specs.Turn.{reader_events, stage_events}
+use Rattle.scp_turn.specs.Rounds.{HearsAll, Carries, IsTurn, IsRound, AreRounds, IsMovingRound, Rests}
 use Rattle.scp_line.proofs.Places.{set_same, get_set, map_at}
 use Rattle.scp_line.specs.Links.{tail_at, tails}
 use Rattle.scp_line.proofs.Tails.{linked}

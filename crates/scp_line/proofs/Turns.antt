@@ -4,14 +4,14 @@ use Rattle.std.specs.Prelude.{slice_get, slice_set, if◌then◌else◌}
 use Rattle.std.proofs.lemmas.Bool.{eqb-true, eqb-false}
 use Rattle.std.proofs.lemmas.List.{map-append}
 use Rattle.std.proofs.lemmas.Option.{same_Some}
-use Rattle.scp_network.specs.scp_core.specs.declared.event.Event.{Event}
-use Rattle.scp_network.specs.scp_core.specs.declared.event.Reply.{Reply}
-use Rattle.scp_network.specs.scp_turn.specs.Commands.{TakenCommand, taken_by}
-use Rattle.scp_network.specs.scp_core.specs.History.{Exchange}
-use Rattle.scp_network.specs.scp_core.specs.Kv.{NodeView, Step}
-use Rattle.scp_network.specs.scp_turn.specs.Kv.{Noting, Does, taken_over}
-use Rattle.scp_network.specs.Heard.{Nodes, Heard, IsHeard, past_at, Noted}
-use Rattle.scp_network.proofs.Acting.{others_stay}
+use Rattle.scp_turn.specs.scp_core.specs.declared.event.Event.{Event}
+use Rattle.scp_turn.specs.scp_core.specs.declared.event.Reply.{Reply}
+use Rattle.scp_turn.specs.Commands.{TakenCommand, taken_by}
+use Rattle.scp_turn.specs.scp_core.specs.History.{Exchange}
+use Rattle.scp_turn.specs.scp_core.specs.Kv.{NodeView, Step}
+use Rattle.scp_turn.specs.Kv.{Noting, Does, taken_over}
+use Rattle.scp_turn.specs.Heard.{Nodes, Heard, IsHeard, past_at, Noted}
+use Rattle.scp_turn.proofs.Acting.{others_stay}
 
 -- One node did these steps, and what was noted of the commands that it took, one after another, is behind what was noted before.
 pub record Went {X : Type 0} (f : TakenCommand → X) (place : ℕ) (new : Nodes) (old : NodeView) (heard : List Exchange) (before noted : List X) : Type 0 where

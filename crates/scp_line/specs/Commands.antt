@@ -3,10 +3,10 @@ use Rattle.std.specs.Prelude.{ℕ, ◌+◌, ◌≡◌, List, [], Some, flat_map,
 use Rattle.scp_wire.specs.declared.link.Command.{Command as LocalCommand}
 use Rattle.scp_pending.specs.Endings.{commands_in}
 use Rattle.scp_ledger.specs.Runs.{Taking}
-use Rattle.scp_network.specs.scp_turn.specs.Commands.{TakenCommand, command_taken, commands_taken, fates_taken, given_in, AreInTurn}
-use Rattle.scp_network.specs.scp_core.specs.Kv.{NodeView, LedgerTheorem}
-use Rattle.scp_network.specs.scp_turn.specs.Kv.{Does, taken_over}
-use Rattle.scp_network.specs.Heard.{Nodes, Heard, past_at}
+use Rattle.scp_turn.specs.Commands.{TakenCommand, command_taken, commands_taken, fates_taken, given_in, AreInTurn}
+use Rattle.scp_turn.specs.scp_core.specs.Kv.{NodeView, LedgerTheorem}
+use Rattle.scp_turn.specs.Kv.{Does, taken_over}
+use Rattle.scp_turn.specs.Heard.{Nodes, Heard, past_at}
 use Rattle.scp_threaded_script.specs.scp_gather.specs.Kv.{Left, NodeReport, AreFatesOf}
 use Rattle.scp_threaded_script.specs.Lines.{commands_for}
 use Rattle.scp_threaded_script.specs.Reported.{AreNodesReported}

@@ -4,9 +4,9 @@ use Rattle.std.specs.Prelude.{ℕ, ◌+◌, ◌<◌, ◌≡◌, List, [], get_or
 use Rattle.scp_kv.specs.State.{fold_of}
 use Rattle.scp_apply.specs.Applied.{values_of}
 use Rattle.scp_theorem.specs.Headline.{Headline}
-use Rattle.scp_network.specs.scp_core.specs.Headline.{HoldsHeadline}
-use Rattle.scp_network.specs.scp_core.specs.Kv.{NodeView}
-use Rattle.scp_network.specs.Heard.{Heard, Nodes, past_at}
+use Rattle.scp_turn.specs.scp_core.specs.Headline.{HoldsHeadline}
+use Rattle.scp_turn.specs.scp_core.specs.Kv.{NodeView}
+use Rattle.scp_turn.specs.Heard.{Heard, Nodes, past_at}
 use Rattle.scp_threaded_script.specs.scp_gather.specs.Kv.{NodeReport, Left}
 use Rattle.scp_threaded_script.specs.scp_gather.specs.Headline.{books_reported}
 use Rattle.scp_threaded_script.specs.scp_threaded_node.specs.declared.ending.Stood.{Stood}

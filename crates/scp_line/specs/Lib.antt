@@ -1,6 +1,6 @@
 pub use Rattle.scp_threaded_script
 pub use Rattle.scp_report
-pub use Rattle.scp_network
+pub use Rattle.scp_turn
 pub mod Outcome
 pub mod Play
 pub mod Links

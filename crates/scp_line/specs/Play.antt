@@ -13,13 +13,13 @@ use Rattle.scp_wire.specs.declared.message.Message.TheVariants.{Envelope, GetSet
 use Rattle.scp_wire.specs.declared.link.Command.{Command as LocalCommand}
 use Rattle.scp_wire.specs.Message.{message_reading}
 use Rattle.scp_wire.specs.Reading.{reading_of}
-use Rattle.scp_network.specs.scp_core.specs.declared.config.Config.{Config}
-use Rattle.scp_network.specs.scp_core.specs.declared.event.Event.{Event}
-use Rattle.scp_network.specs.scp_core.specs.declared.event.Event.TheVariants as event
-use Rattle.scp_network.specs.scp_core.specs.declared.event.Reply.{Reply}
-use Rattle.scp_network.specs.scp_core.specs.declared.event.Reply.TheVariants.{Accepted, Full}
-use Rattle.scp_network.specs.scp_core.specs.Node.{LinkView, is_full}
-use Rattle.scp_network.specs.scp_core.specs.Kv.{NodeView, LedgerTheorem, HoldsLedger}
+use Rattle.scp_turn.specs.scp_core.specs.declared.config.Config.{Config}
+use Rattle.scp_turn.specs.scp_core.specs.declared.event.Event.{Event}
+use Rattle.scp_turn.specs.scp_core.specs.declared.event.Event.TheVariants as event
+use Rattle.scp_turn.specs.scp_core.specs.declared.event.Reply.{Reply}
+use Rattle.scp_turn.specs.scp_core.specs.declared.event.Reply.TheVariants.{Accepted, Full}
+use Rattle.scp_turn.specs.scp_core.specs.Node.{LinkView, is_full}
+use Rattle.scp_turn.specs.scp_core.specs.Kv.{NodeView, LedgerTheorem, HoldsLedger}
 use Rattle.scp_threaded_script.specs.Lines.{local_by}
 use Rattle.scp_script.specs.declared.command.Command.{Command}
 use Rattle.scp_script.specs.declared.command.Command.TheVariants as script
@@ -29,9 +29,9 @@ use Rattle.scp_script.specs.Nodes.{id_of, peers_of, set_at, capacities_in}
 use Rattle.scp_words.specs.Words.{hex_word}
 use Rattle.scp_report.specs.Node.{reports_of}
 use Rattle.scp_report.specs.Reports.{settled_text}
-use Rattle.scp_network.specs.Heard.{Nodes, Heard, HaveHeard, past_at, Then, IsNothing, IsOne}
-use Rattle.scp_network.specs.Rounds.{link_of, Rests, RestsAs, Breaks, AllRun}
-use Rattle.scp_network.specs.Network.{driven_more, none_driven}
+use Rattle.scp_turn.specs.Heard.{Nodes, Heard, HaveHeard, past_at, Then, IsNothing, IsOne}
+use Rattle.scp_turn.specs.Rounds.{link_of, Rests, RestsAs, Breaks, AllRun}
+use Rattle.scp_turn.specs.Network.{driven_more, none_driven}
 
 -- The number of the node that hears a command, and the event that it hears. Some commands are no event.
 abbrev pub event_by : Command → Option (ℕ × Event)

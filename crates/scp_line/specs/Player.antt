@@ -2,14 +2,14 @@
 use Rattle.std.specs.Prelude.{ℕ, ◌≤◌, ◌≡◌, ◌≢◌, ◌⊎◌, Bool, List, [], ◌∷◌, ◌++◌, length}
 use Rattle.scp_types.specs.declared.limits.TheConstants.{NODE_LIMIT}
 use Rattle.scp_types.specs.declared.fault.Fault.TheVariants.{NoMemory as no_memory}
-use Rattle.scp_network.specs.scp_core.specs.declared.event.Event.{Event}
-use Rattle.scp_network.specs.scp_core.specs.declared.event.Reply.{Reply}
-use Rattle.scp_network.specs.scp_core.specs.Kv.{NodeView}
-use Rattle.scp_network.specs.scp_turn.specs.Watch.{notes}
-use Rattle.scp_network.specs.scp_turn.specs.Kv.{Noting}
-use Rattle.scp_network.specs.Heard.{Nodes, Heard, HaveHeard, Noted}
-use Rattle.scp_network.specs.Rounds.{AllRun}
-use Rattle.scp_network.specs.Network.{NetworkView}
+use Rattle.scp_turn.specs.scp_core.specs.declared.event.Event.{Event}
+use Rattle.scp_turn.specs.scp_core.specs.declared.event.Reply.{Reply}
+use Rattle.scp_turn.specs.scp_core.specs.Kv.{NodeView}
+use Rattle.scp_turn.specs.Watch.{notes}
+use Rattle.scp_turn.specs.Kv.{Noting}
+use Rattle.scp_turn.specs.Heard.{Nodes, Heard, HaveHeard, Noted}
+use Rattle.scp_turn.specs.Rounds.{AllRun}
+use Rattle.scp_turn.specs.Network.{NetworkView}
 use Rattle.scp_script.specs.declared.command.Command.{Command}
 use Rattle.scp_script.specs.Script.{node_count}
 use Rattle.scp_line.specs.declared.player.Stopped.{Stopped}

@@ -3,11 +3,11 @@ ghost use Rattle.scp_line.specs.Commands.{LinesAreGiven, FatesAreOfTheirLines, R
 ghost use Rattle.scp_line.specs.Headlines.{PlayingKeepsHeadlines, ReportingKeepsHeadlines};
 ghost use Rattle.scp_line.specs.Laws.{LinesHaveRoom};
 
-use scp_network::{
+use scp_threaded_script::what_is_reported_keeps_the_headline;
+use scp_turn::{
     KvDriver, each_command_is_taken_in_its_turn, each_node_holds_its_headline,
     each_node_holds_its_ledger,
 };
-use scp_threaded_script::what_is_reported_keeps_the_headline;
 
 /// The capacities that a script's lines give the queues of its nodes are in range.
 pub fn a_script_has_room()

@@ -5,22 +5,22 @@ ghost use Rattle.scp_script.specs.Script.{AreAdmitted, node_count};
 ghost use Rattle.scp_script.specs.Nodes.{NamesNodes, IsSmall};
 ghost use Rattle.scp_report.specs.Node.{reports_of as records_of};
 ghost use Rattle.scp_report.specs.Reports.{settled_text};
-ghost use Rattle.scp_network.specs.scp_core.specs.Config.{IsConfig};
-ghost use Rattle.scp_network.specs.Network.{none_driven};
+ghost use Rattle.scp_turn.specs.scp_core.specs.Config.{IsConfig};
+ghost use Rattle.scp_turn.specs.Network.{none_driven};
 ghost use Rattle.scp_line.specs.Play.{config_of, driven_in, event_by, IsNew, AreNew, Played};
-ghost use Rattle.scp_network.specs.scp_turn.specs.Watch.{notes};
+ghost use Rattle.scp_turn.specs.Watch.{notes};
 ghost use Rattle.scp_line.specs.Nodes.{HaveRoom, AreMade, moment, Offers, Settles, Acts, ActsAlone, ActsAgain, brings_to_rest};
 ghost use Rattle.scp_line.specs.inside.Nodes.{IsPlayed, IsStopped};
 
 use crate::player::play_lines;
 use crate::playing::PlayFault;
 use crate::watch::Nobody;
-use scp_network::{
-    Capacities, Config, Event, KvDriver, Network, NoWatch, Node, Peers, Reply, Watch, link_from,
-};
 use scp_report::{reports_of, settled_report};
 use scp_script::{Command, capacities_of, count_of_nodes, id_from, peers_of_node, set_of_node};
 use scp_threaded_script::command_of;
+use scp_turn::{
+    Capacities, Config, Event, KvDriver, Network, NoWatch, Node, Peers, Reply, Watch, link_from,
+};
 use scp_types::Fault;
 use std::alloc::{AllocError, Global};
 

@@ -8,8 +8,8 @@ ghost use Rattle.scp_line.specs.Player.{lining, IsRun, IsStoppedBy};
 use crate::nodes::act_with;
 use crate::playing::PlayFault;
 use crate::watch::LineWatch;
-use scp_network::Network;
 use scp_script::Command;
+use scp_turn::Network;
 
 /// The number of the line at which a script stopped, and the reason.
 #[derive(Clone, Copy, Debug, PartialEq, Eq)]

@@ -1,13 +1,13 @@
 //! Watches of a script's lines and of its nodes' steps.
 
-use scp_network::{Event, KvDriver, Node, Reply, Watch};
 use scp_script::Command;
+use scp_turn::{Event, KvDriver, Node, Reply, Watch};
 
 /// A watch that sees each line of a script that is played, and each step of its nodes. It can't refuse a line: a watch that is out of memory
 /// remembers that, and says so at the end.
 pub trait LineWatch: Watch<KvDriver> {
     ghost use Rattle.std.specs.Prelude.{ℕ, Bool};
-    ghost use Rattle.scp_network.specs.Heard.{Nodes};
+    ghost use Rattle.scp_turn.specs.Heard.{Nodes};
     ghost use Rattle.scp_script.specs.declared.command.Command.{Command};
     ghost use Rattle.scp_script.specs.Nodes.{NamesNodes};
     ghost use Rattle.scp_line.specs.Player.{ArePlaying};

@@ -5,8 +5,8 @@ use Rattle.scp_core.specs.History.{Exchange}
 use Rattle.scp_core.specs.Kv.{NodeView, LedgerTheorem}
 use Rattle.scp_driver.specs.Kv.{kv_says}
 use Rattle.scp_turn.specs.Kv.{Does, Goes, Noting, Watched}
-use Rattle.scp_episode.specs.Episode.{finds_full, is_full_reply}
-use Rattle.scp_episode.proofs.Causes.{clash, fell}
+use Rattle.scp_turn.specs.Episode.{finds_full, is_full_reply}
+use Rattle.scp_turn.proofs.Causes.{clash, fell}
 
 does_on : (a b c : NodeView) (x y : List Exchange) → Does a x b → Does b y c → Does a (x ++ y) c
 does_on a b c [] y p q = subst (λ (v : NodeView). Does v y c) p q

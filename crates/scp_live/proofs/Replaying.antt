@@ -13,7 +13,7 @@ use Rattle.scp_types.specs.declared.fault.Fault.{Fault}
 use Rattle.scp_types.specs.declared.fault.Fault.TheVariants.{NoMemory, JournalFull}
 use Rattle.scp_types.specs.declared.fault.Fault.TheVariants as faults
 use Rattle.scp_types.specs.declared.names.Hash.{Hash}
-use Rattle.scp_episode.specs.Episode.{finds_full}
+use Rattle.scp_turn.specs.Episode.{finds_full}
 use Rattle.scp_live_log.specs.Log.{EntryView}
 use Rattle.scp_live_log.specs.declared.kept.LogFault.{LogFault}
 use Rattle.scp_live_log.specs.declared.kept.LogFault.TheVariants.{Damaged, Failed}
@@ -28,7 +28,7 @@ use Rattle.scp_live_lines.specs.Says.{Says}
 use Rattle.scp_live.specs.Live.{LiveView, IsTold, told_of}
 use Rattle.scp_live.specs.Replays.{IsReplayed, AreReplayed, IsNoEvent, SaysNoEvent, IsUnfit, IsUnfitAt}
 use Rattle.scp_live.specs.inside.Replaying.{IsReplayFault}
-use Rattle.scp_episode.proofs.Causes.{clash}
+use Rattle.scp_turn.proofs.Causes.{clash}
 use Rattle.scp_live.proofs.Going.{Heard, heard_as, heard_then, watched_on, heard_running, found_later, found_behind, none_found}
 use Rattle.scp_live.proofs.Texts.{ok_isnt, same_fault}
 

@@ -1,4 +1,4 @@
-pub use Rattle.scp_episode
+pub use Rattle.scp_turn
 pub use Rattle.scp_again
 pub mod Live
 pub mod Again

@@ -4,15 +4,14 @@ ghost use Rattle.sha2.specs.Sha256.{sha256};
 ghost use Rattle.scp_types.specs.declared.fault.Fault.{Fault};
 ghost use Rattle.scp_turn.specs.Kv.{Goes, Watched};
 ghost use Rattle.scp_turn.specs.Watch.{notes};
-ghost use Rattle.scp_episode.specs.Episode.{IsOfHost, finds_full};
+ghost use Rattle.scp_turn.specs.Episode.{IsOfHost, finds_full};
 ghost use Rattle.scp_live_lines.specs.Timers.{changes};
 ghost use Rattle.scp_live.specs.Live.{IsTold, AreTimersOf, refusal, sent_line, new_fates, new_decisions, newly_applied};
 
 use crate::telling::{Marks, digest_from, tell_new, tell_refusal, tell_sent};
 use scp_core::{Event, KvDriver, Node, Timer, timers};
-use scp_episode::{Played, play_with};
 use scp_live_lines::write_changes;
-use scp_turn::Watch;
+use scp_turn::{Played, Watch, play_with};
 use scp_types::{Fault, Hash};
 use std::alloc::Global;
 

@@ -6,7 +6,7 @@ ghost use Rattle.scp_turn.specs.Kv.{Goes, Watched};
 ghost use Rattle.scp_turn.specs.Watch.{notes};
 ghost use Rattle.scp_live_lines.specs.declared.asked.Asked.TheVariants as asked;
 ghost use Rattle.scp_live_lines.specs.Says.{Says};
-ghost use Rattle.scp_episode.specs.Episode.{IsOfHost, finds_full};
+ghost use Rattle.scp_turn.specs.Episode.{IsOfHost, finds_full};
 ghost use Rattle.scp_live.specs.Replays.{IsReplayed, AreReplayed, SaysNoEvent, IsUnfit, IsUnfitAt};
 ghost use Rattle.scp_live.specs.inside.Replaying.{IsReplayFault};
 ghost use Rattle.scp_live.specs.Living.{IsLive};

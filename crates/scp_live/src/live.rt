@@ -7,7 +7,7 @@ ghost use Rattle.scp_core.specs.Kv.{LedgerTheorem};
 ghost use Rattle.scp_turn.specs.Turn.{links_of};
 ghost use Rattle.scp_turn.specs.Kv.{Goes, Watched};
 ghost use Rattle.scp_turn.specs.Watch.{notes};
-ghost use Rattle.scp_episode.specs.Episode.{IsOfHost, finds_full};
+ghost use Rattle.scp_turn.specs.Episode.{IsOfHost, finds_full};
 ghost use Rattle.scp_live.specs.Live.{IsTold, AreTimersOf};
 
 use crate::acting;

@@ -7,7 +7,7 @@ use Rattle.scp_types.specs.declared.names.Hash.{Hash}
 use Rattle.scp_turn.specs.scp_core.specs.History.{Exchange}
 use Rattle.scp_turn.specs.scp_core.specs.Kv.{NodeView}
 use Rattle.scp_turn.specs.Kv.{Goes, Noting, Watched}
-use Rattle.scp_live.specs.scp_episode.specs.Episode.{finds_full}
+use Rattle.scp_live.specs.scp_turn.specs.Episode.{finds_full}
 use Rattle.scp_live_process.proofs.Going.{Seen}
 
 same_fault : (f g : Fault) → Err {T = Hash} {E = Fault} f ≡ Err g → f ≡ g

@@ -8,7 +8,7 @@ use Rattle.scp_turn.specs.scp_core.specs.declared.event.Event.{Event as Happenin
 use Rattle.scp_turn.specs.scp_core.specs.History.{Exchange}
 use Rattle.scp_turn.specs.scp_core.specs.Kv.{NodeView}
 use Rattle.scp_turn.specs.Kv.{Goes, Noting}
-use Rattle.scp_live.specs.scp_episode.specs.Episode.{finds_full}
+use Rattle.scp_live.specs.scp_turn.specs.Episode.{finds_full}
 use Rattle.scp_live_log.specs.Log.{EntryView}
 use Rattle.scp_wire.specs.declared.message.Message.{Message}
 use Rattle.scp_live_lines.specs.Sent.{again_line}

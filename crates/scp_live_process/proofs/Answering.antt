@@ -6,7 +6,7 @@ use Rattle.scp_turn.specs.scp_core.specs.declared.event.Event.TheVariants as hap
 use Rattle.scp_turn.specs.scp_core.specs.History.{Exchange}
 use Rattle.scp_live_log.specs.Log.{EntryView}
 use Rattle.scp_batches.specs.declared.line.TheConstants.{LINE_LIMIT}
-use Rattle.scp_live.specs.scp_episode.specs.Episode.{IsOfHost}
+use Rattle.scp_live.specs.scp_turn.specs.Episode.{IsOfHost}
 use Rattle.scp_live_lines.specs.declared.asked.Asked.{Asked}
 use Rattle.scp_live_lines.specs.declared.asked.Asked.TheVariants.{Event, Again, State, Report, Stand, Applied, Nothing}
 use Rattle.scp_script.specs.scp_device.specs.Expected.{words_of}

@@ -6,7 +6,7 @@ use Rattle.scp_types.specs.declared.fault.Fault.TheVariants.{NoMemory, TooLong, 
 use Rattle.scp_turn.specs.scp_core.specs.Config.{IsConfigOfMany}
 use Rattle.scp_turn.specs.scp_core.specs.History.{Exchange}
 use Rattle.scp_turn.specs.scp_core.specs.Kv.{TheoremGivesLedger, LedgerGivesHeadline}
-use Rattle.scp_live.specs.scp_episode.specs.Episode.{finds_full}
+use Rattle.scp_live.specs.scp_turn.specs.Episode.{finds_full}
 use Rattle.scp_live_log.specs.declared.kept.Kept.{Kept}
 use Rattle.scp_live_log.specs.declared.kept.LogFault.{LogFault}
 use Rattle.scp_live_log.specs.declared.kept.LogFault.TheVariants.{Failed}

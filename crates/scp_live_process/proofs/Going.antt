@@ -1,6 +1,6 @@
 -- A node that heard more, and a watch that was told of it.
 use Rattle.std.proofs.Common.{◌≡◌, true, false, List, [], ◌++◌, refl}
-use Rattle.scp_live.specs.scp_episode.specs.Episode.{finds_full}
+use Rattle.scp_live.specs.scp_turn.specs.Episode.{finds_full}
 use Rattle.scp_turn.specs.scp_core.specs.History.{Exchange}
 use Rattle.scp_turn.specs.scp_core.specs.Kv.{NodeView}
 use Rattle.scp_turn.specs.Kv.{Goes, Noting, Watched}

@@ -6,7 +6,7 @@ use Rattle.scp_types.specs.declared.fault.Fault.TheVariants as fault
 use Rattle.scp_device.specs.Device.{Fails}
 use Rattle.scp_turn.specs.scp_core.specs.History.{Exchange}
 use Rattle.scp_turn.specs.Turn.{links_of}
-use Rattle.scp_live.specs.scp_episode.specs.Episode.{finds_full}
+use Rattle.scp_live.specs.scp_turn.specs.Episode.{finds_full}
 use Rattle.scp_live_log.specs.declared.kept.Kept.{Kept}
 use Rattle.scp_live_log.specs.declared.kept.LogFault.{LogFault}
 use Rattle.scp_live_log.specs.declared.kept.LogFault.TheVariants.{Another, Damaged, Failed}

@@ -2,7 +2,7 @@
 ghost use Rattle.std.specs.Prelude.{◌≡◌, ◌⊎◌, ◌↔◌, false, true, IfOk, IfErr, OnOk, IsErrOf, string_bytes};
 ghost use Rattle.scp_turn.specs.Kv.{Goes, Watched};
 ghost use Rattle.scp_turn.specs.Watch.{notes};
-ghost use Rattle.scp_live.specs.scp_episode.specs.Episode.{IsOfHost, finds_full};
+ghost use Rattle.scp_live.specs.scp_turn.specs.Episode.{IsOfHost, finds_full};
 ghost use Rattle.scp_live.specs.Live.{IsTold};
 
 use scp_live::Live;

@@ -3,7 +3,7 @@ ghost use Rattle.std.specs.Prelude.{◌≡◌, ◌⊎◌, ◌↔◌, true, IfOk,
 ghost use Rattle.scp_live_log.specs.Log.{IsLine};
 ghost use Rattle.scp_turn.specs.Kv.{Goes, Watched};
 ghost use Rattle.scp_turn.specs.Watch.{notes};
-ghost use Rattle.scp_live.specs.scp_episode.specs.Episode.{finds_full};
+ghost use Rattle.scp_live.specs.scp_turn.specs.Episode.{finds_full};
 ghost use Rattle.scp_live_lines.specs.Says.{Says};
 ghost use Rattle.scp_live_process.specs.Answers.{IsDone, IsAnswered, AreAnswered, next_number};
 ghost use Rattle.scp_live_process.specs.inside.Adding.{Adds};

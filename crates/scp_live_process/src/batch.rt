@@ -4,7 +4,7 @@ ghost use Rattle.hex.specs.Hex.{IsBytes};
 ghost use Rattle.scp_live_log.specs.Log.{IsEntry, IsLine};
 ghost use Rattle.scp_turn.specs.Kv.{Goes, Watched};
 ghost use Rattle.scp_turn.specs.Watch.{notes};
-ghost use Rattle.scp_live.specs.scp_episode.specs.Episode.{IsOfHost, finds_full};
+ghost use Rattle.scp_live.specs.scp_turn.specs.Episode.{IsOfHost, finds_full};
 ghost use Rattle.scp_live_lines.specs.Replies.{ok_line};
 ghost use Rattle.scp_live_process.specs.Answers.{IsPlayed, bad_line, Replies};
 ghost use Rattle.scp_live_process.specs.inside.Adding.{Adds, TellsMore, Asks};

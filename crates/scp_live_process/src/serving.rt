@@ -3,7 +3,7 @@ ghost use Rattle.std.specs.Prelude.{◌≡◌, ◌≢◌, ◌⊎◌, ◌↔◌, 
 ghost use Rattle.scp_device.specs.Device.{Gains, GainsPart, Fails};
 ghost use Rattle.scp_turn.specs.Kv.{Goes, Watched};
 ghost use Rattle.scp_turn.specs.Watch.{notes};
-ghost use Rattle.scp_live.specs.scp_episode.specs.Episode.{finds_full};
+ghost use Rattle.scp_live.specs.scp_turn.specs.Episode.{finds_full};
 ghost use Rattle.scp_live_process.specs.Serving.{HasServed, HasServedPart};
 ghost use Rattle.scp_live_process.specs.inside.Batches.{number_behind, IsBatch, StaysDurable};
 ghost use Rattle.scp_live.specs.Living.{IsLive};

@@ -4,7 +4,7 @@ ghost use Rattle.std.specs.Bool.{OnFalse, OnTrue};
 ghost use Rattle.scp_device.specs.Device.{Fails};
 ghost use Rattle.scp_live_lines.specs.declared.asked.Asked.TheVariants as asked;
 ghost use Rattle.scp_live_lines.specs.Says.{Says};
-ghost use Rattle.scp_live.specs.scp_episode.specs.Episode.{IsOfHost, finds_full};
+ghost use Rattle.scp_live.specs.scp_turn.specs.Episode.{IsOfHost, finds_full};
 ghost use Rattle.scp_turn.specs.scp_core.specs.Node.{accepts_at, room_at};
 ghost use Rattle.scp_turn.specs.Turn.{links_of};
 ghost use Rattle.scp_turn.specs.Kv.{Goes, Watched};

@@ -8,8 +8,8 @@ use Rattle.scp_ledger.specs.declared.journal.Decision.{Decision}
 use Rattle.scp_apply.specs.Applied.{AreInOrder}
 use Rattle.scp_core.specs.History.{Exchange}
 use Rattle.scp_core.specs.Kv.{HoldsLedger, FailedAfter, TheoremGivesLedger, NodeView}
-use Rattle.scp_network.specs.Heard.{past_at}
-use Rattle.scp_network.specs.Network.{NetworkView}
+use Rattle.scp_turn.specs.Heard.{past_at}
+use Rattle.scp_turn.specs.Network.{NetworkView}
 use Rattle.scp_gather.specs.Kv.{NodeReport, ReportsKeepHeadline}
 use Rattle.scp_line.specs.scp_threaded_script.specs.Reported.{AreNodesReported}
 use Rattle.scp_script.specs.declared.command.Command.{Command}

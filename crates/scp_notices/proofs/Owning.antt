@@ -12,8 +12,8 @@ use Rattle.scp_core.specs.declared.event.Reply.TheVariants as reply
 use Rattle.scp_turn.specs.Commands.{TakenCommand, fates_taken, taken_at, taken_by, AreInTurn}
 use Rattle.scp_core.specs.Kv.{NodeView, Step}
 use Rattle.scp_turn.specs.Kv.{taken_over}
-use Rattle.scp_network.specs.Heard.{past_at, Noted}
-use Rattle.scp_network.specs.Network.{NetworkView}
+use Rattle.scp_turn.specs.Heard.{past_at, Noted}
+use Rattle.scp_turn.specs.Network.{NetworkView}
 use Rattle.scp_script.specs.declared.command.Command.{Command}
 use Rattle.scp_line.specs.Commands.{commands_to, FatesAreOfTheirLines}
 use Rattle.scp_line.specs.Player.{Lining, IsRun}

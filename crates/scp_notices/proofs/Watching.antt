@@ -5,7 +5,7 @@ use Rattle.scp_core.specs.declared.event.Event.TheVariants as event
 use Rattle.scp_core.specs.declared.event.Reply.{Reply}
 use Rattle.scp_core.specs.declared.event.Reply.TheVariants as reply
 use Rattle.scp_core.specs.Kv.{NodeView}
-use Rattle.scp_network.specs.Heard.{Nodes}
+use Rattle.scp_turn.specs.Heard.{Nodes}
 use Rattle.scp_script.specs.declared.command.Command.{Command}
 use Rattle.scp_line.specs.Player.{Lining, lining}
 use Rattle.scp_line.specs.inside.Player.{NotesAs}

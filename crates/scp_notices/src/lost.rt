@@ -8,9 +8,9 @@ ghost use Rattle.scp_notices.specs.inside.Seen.{lost_in};
 
 use crate::notice::Notice;
 use scp_line::Report;
-use scp_network::link_from;
 use scp_script::Command;
 use scp_script_check::is_scripted;
+use scp_turn::link_from;
 use std::alloc::AllocError;
 
 /// The number of own statements that a node lost for the peer of a link.

@@ -22,8 +22,8 @@ use scp_line::{
     Both, LineWatch, Nobody, PlayFault, a_script_has_room, each_fate_is_of_its_command,
     new_network, play_lines, reports_of, what_is_played_keeps_the_headlines,
 };
-use scp_network::Network;
 use scp_script_check::{ReadFault, Script, read};
+use scp_turn::Network;
 use scp_types::{Fault, ROUND_LIMIT};
 use std::alloc::{AllocError, AllocFailed, Global};
 

@@ -2,9 +2,9 @@
 
 use crate::world::{SimFault, World};
 use scp_core::Event;
-use scp_network::link_from;
 use scp_script::Command;
 use scp_sim_options::parts;
+use scp_turn::link_from;
 
 impl<'a> World<'a> {
     /// Whether a node is stopped.

@@ -4,8 +4,8 @@ use crate::chance::{happens, within};
 use crate::due::Due;
 use crate::world::{SimFault, World};
 use scp_core::Event;
-use scp_network::link_from;
 use scp_script::Command;
+use scp_turn::link_from;
 use scp_wire::Bytes;
 
 impl<'a> World<'a> {

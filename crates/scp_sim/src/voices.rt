@@ -5,9 +5,9 @@ use crate::newest::newest;
 use crate::world::{FLOOD, SimFault, World};
 use rand_core::Rng;
 use scp_core::{Event, Reply};
-use scp_network::link_from;
 use scp_sim_options::is_marked;
 use scp_text::message_of;
+use scp_turn::link_from;
 use scp_wire::{Bytes, encode};
 
 impl<'a> World<'a> {

@@ -14,10 +14,10 @@ use rand_chacha::ChaCha12Rng;
 use rand_core::SeedableRng;
 use scp_core::{Capacities, Config, KvDriver, Node, Peers};
 use scp_line::{PlayFault, a_script_has_room, new_network};
-use scp_network::Network;
 use scp_script::{capacities_of, count_of_nodes, id_from, peers_of_node, set_of_node};
 use scp_script_check::{ReadFault, Script};
 use scp_sim_options::{Plan, is_marked};
+use scp_turn::Network;
 use scp_types::Fault;
 use std::alloc::{AllocError, AllocFailed, Global};
 

@@ -6,8 +6,8 @@ use Rattle.scp_sim_findings.specs.declared.running.ToldFault.{ToldFault}
 use Rattle.scp_sim_findings.specs.Outcome.{IsWorst, closed_by, judged_of, outcome_text}
 use Rattle.scp_sim_findings.specs.Replayed.{IsReplayed}
 use Rattle.scp_sim_findings.specs.Told.{counted_text, IsTold, IsToldOf, marks_of}
-use Rattle.scp_network.specs.Heard.{Nodes}
-use Rattle.scp_network.specs.Network.{NetworkView}
+use Rattle.scp_turn.specs.Heard.{Nodes}
+use Rattle.scp_turn.specs.Network.{NetworkView}
 use Rattle.scp_sim_options.specs.declared.plan.Plan.{Plan}
 use Rattle.scp_script_text.specs.declared.script.Form.TheVariants.{Text}
 use Rattle.scp_script_text.specs.declared.script.Kind.TheVariants.{Nodes as OfNodes}

@@ -3,7 +3,7 @@ use Rattle.std.specs.Prelude.{ℕ, ◌+◌, ◌≡◌, ◌<◌, Bool, true, fals
 use Rattle.std.specs.List.{list_any}
 use Rattle.std.specs.Fmt.{decimal}
 use Rattle.scp_core.specs.Kv.{NodeView}
-use Rattle.scp_network.specs.Heard.{Nodes}
+use Rattle.scp_turn.specs.Heard.{Nodes}
 use Rattle.scp_notices.specs.declared.notice.Notice.{Notice}
 use Rattle.scp_notices.specs.declared.notice.Notice.TheVariants.{Unsettled, GaveUp, Disagree, Ignored, Overwritten, NoWait}
 use Rattle.scp_notices.specs.declared.notice.Side.{Side}

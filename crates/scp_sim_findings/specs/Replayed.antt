@@ -2,7 +2,7 @@
 use Rattle.std.specs.Prelude.{ℕ, ◌≡◌, Bool, List}
 use Rattle.scp_line.specs.scp_report.specs.Node.{reports_of}
 use Rattle.scp_line.specs.scp_report.specs.Reports.{settled_text}
-use Rattle.scp_network.specs.Network.{NetworkView}
+use Rattle.scp_turn.specs.Network.{NetworkView}
 use Rattle.scp_notices.specs.declared.notice.Notice.{Notice}
 use Rattle.scp_notices.specs.Run.{IsRan}
 use Rattle.scp_script_check.specs.declared.reading.Script.{Script}

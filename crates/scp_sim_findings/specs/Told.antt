@@ -6,7 +6,7 @@ use Rattle.scp_sim_findings.specs.declared.running.Told.{Told}
 use Rattle.scp_sim_findings.specs.Outcome.{IsWorst, closed_by, judged_of, outcome_text}
 use Rattle.scp_sim_findings.specs.Replayed.{IsReplayed, ComesTo}
 use Rattle.scp_sim_findings.specs.Shrunk.{IsPartOf}
-use Rattle.scp_network.specs.Network.{NetworkView}
+use Rattle.scp_turn.specs.Network.{NetworkView}
 use Rattle.scp_sim_options.specs.declared.plan.Plan.{Plan}
 use Rattle.scp_script_text.specs.declared.script.Form.TheVariants.{Text}
 use Rattle.scp_script_text.specs.declared.script.Kind.TheVariants.{Nodes as OfNodes}

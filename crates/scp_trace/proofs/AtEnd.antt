@@ -6,7 +6,7 @@ use Rattle.scp_types.specs.declared.fault.Fault.{Fault}
 use Rattle.std.specs.List.{list_any}
 use Rattle.std.proofs.lemmas.List.Folds.{list_any-append}
 use Rattle.scp_core.specs.Kv.{TheoremGivesLedger}
-use Rattle.scp_network.specs.Network.{NetworkView}
+use Rattle.scp_turn.specs.Network.{NetworkView}
 use Rattle.scp_script.specs.declared.command.Command.{Command}
 use Rattle.scp_script.specs.declared.command.Command.TheVariants as script
 use Rattle.scp_line.specs.Nodes.{HasPlayed}

@@ -1,7 +1,7 @@
 -- What is noted of the steps of nodes.
 use Rattle.std.proofs.Common.{List, [], ◌∷◌, ◌++◌, map, refl}
 use Rattle.scp_turn.specs.Kv.{Noting}
-use Rattle.scp_network.specs.Heard.{Nodes, Heard, Noted}
+use Rattle.scp_turn.specs.Heard.{Nodes, Heard, Noted}
 use Rattle.scp_facts.specs.declared.fact.Telling.{Telling}
 use Rattle.scp_facts.specs.Facts.{facts_in}
 use Rattle.scp_facts.specs.Telling.{of_node, Tells}

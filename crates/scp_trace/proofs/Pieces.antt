@@ -4,8 +4,8 @@ use Rattle.std.specs.Prelude.{Option, Some, slice_get, option_to_list}
 use Rattle.std.proofs.lemmas.List.{length-append, take_at}
 use Rattle.std.proofs.lemmas.Option.{slice_get_cases}
 use Rattle.scp_core.specs.Kv.{NodeView, TheoremGivesLedger}
-use Rattle.scp_network.specs.Heard.{Nodes as NodeList, Heard, Noted, past_at}
-use Rattle.scp_network.specs.Network.{NetworkView}
+use Rattle.scp_turn.specs.Heard.{Nodes as NodeList, Heard, Noted, past_at}
+use Rattle.scp_turn.specs.Network.{NetworkView}
 use Rattle.scp_script.specs.declared.command.Command.{Command}
 use Rattle.scp_script.specs.declared.command.Command.TheVariants as script
 use Rattle.scp_script.specs.Words.{words_of}

@@ -4,7 +4,7 @@ use Rattle.std.specs.Prelude.{◌≢◌, Option, None, Some, Result, Ok, Err, If
 use Rattle.scp_types.specs.declared.fault.Fault.{Fault}
 use Rattle.scp_types.specs.declared.fault.Fault.TheVariants.{NoMemory}
 use Rattle.scp_core.specs.Kv.{TheoremGivesLedger}
-use Rattle.scp_network.specs.Network.{NetworkView}
+use Rattle.scp_turn.specs.Network.{NetworkView}
 use Rattle.scp_script.specs.declared.command.Command.{Command}
 use Rattle.scp_script.specs.Script.{AreAdmitted}
 use Rattle.scp_line.specs.declared.playing.PlayFault.{PlayFault}

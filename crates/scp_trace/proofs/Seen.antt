@@ -6,8 +6,8 @@ use Rattle.scp_types.specs.declared.fault.Fault.{Fault}
 use Rattle.scp_core.specs.Kv.{TheoremGivesLedger, NodeView, LedgerTheorem}
 use Rattle.scp_driver.specs.Kv.{kv_says}
 use Rattle.scp_ledger.specs.By.{RunsBy}
-use Rattle.scp_network.specs.Heard.{Nodes, past_at}
-use Rattle.scp_network.specs.Network.{NetworkView}
+use Rattle.scp_turn.specs.Heard.{Nodes, past_at}
+use Rattle.scp_turn.specs.Network.{NetworkView}
 use Rattle.scp_script.specs.declared.command.Command.{Command}
 use Rattle.scp_line.specs.Nodes.{HasPlayed}
 use Rattle.scp_stand_slot.specs.declared.names.Names.{Names}

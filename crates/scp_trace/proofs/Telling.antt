@@ -4,7 +4,7 @@ use Rattle.std.specs.Prelude.{◌||◌, string_bytes}
 use Rattle.scp_core.specs.declared.event.Event.{Event}
 use Rattle.scp_core.specs.declared.event.Reply.{Reply}
 use Rattle.scp_core.specs.Kv.{NodeView}
-use Rattle.scp_network.specs.Heard.{Nodes as NodeList}
+use Rattle.scp_turn.specs.Heard.{Nodes as NodeList}
 use Rattle.scp_script.specs.declared.command.Command.{Command}
 use Rattle.scp_line.specs.Player.{Lining, lining}
 use Rattle.scp_line.specs.inside.Player.{NotesAs}

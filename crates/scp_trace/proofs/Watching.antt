@@ -6,7 +6,7 @@ use Rattle.scp_types.specs.declared.fault.Fault.{Fault}
 use Rattle.scp_core.specs.Kv.{NodeView, LedgerTheorem}
 use Rattle.scp_driver.specs.Kv.{kv_says}
 use Rattle.scp_ledger.specs.By.{RunsBy}
-use Rattle.scp_network.specs.Heard.{Nodes as NodeList, past_at}
+use Rattle.scp_turn.specs.Heard.{Nodes as NodeList, past_at}
 use Rattle.scp_script.specs.declared.command.Command.{Command}
 use Rattle.scp_script.specs.declared.command.Command.TheVariants as script
 use Rattle.scp_line.specs.Player.{ArePlaying}

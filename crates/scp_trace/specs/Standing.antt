@@ -2,7 +2,7 @@
 use Rattle.std.specs.Prelude.{ℕ, ◌+◌, ◌-◌, ◌≡◌, Bool, true, false, not, ◌&&◌, ◌||◌, List, [], ◌∷◌, ◌++◌, Some, codes, nat_eq, slice_get}
 use Rattle.std.specs.List.{list_any}
 use Rattle.scp_core.specs.Kv.{NodeView}
-use Rattle.scp_network.specs.Heard.{Nodes as NodeList, Heard}
+use Rattle.scp_turn.specs.Heard.{Nodes as NodeList, Heard}
 use Rattle.scp_script.specs.declared.command.Command.{Command}
 use Rattle.scp_script.specs.declared.command.Command.TheVariants.{Report}
 use Rattle.scp_script.specs.Script.{node_count}

@@ -1,7 +1,7 @@
 -- What a trace shows of a script's run, line by line (this project's profile).
 use Rattle.std.specs.Prelude.{ℕ, ◌≡◌, ◌≢◌, List, [], ◌∷◌, ◌++◌, Option, Some, None, length, slice_get, string_bytes}
 use Rattle.scp_types.specs.declared.fault.Fault.TheVariants.{NoMemory as no_memory}
-use Rattle.scp_network.specs.Heard.{Nodes as NodeList, Heard, Noted}
+use Rattle.scp_turn.specs.Heard.{Nodes as NodeList, Heard, Noted}
 use Rattle.scp_script.specs.declared.command.Command.{Command}
 use Rattle.scp_script.specs.declared.command.Command.TheVariants.{Report}
 use Rattle.scp_line.specs.declared.playing.PlayFault.{PlayFault}

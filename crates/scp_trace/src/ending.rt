@@ -8,9 +8,9 @@ ghost use Rattle.scp_trace.specs.Playing.{IsPlaying, moment_at};
 
 use crate::standing::{Playing, write_node};
 use scp_core::{KvDriver, each_node_holds_its_ledger};
-use scp_network::Network;
 use scp_script::Command;
 use scp_script_check::is_scripted;
+use scp_turn::Network;
 use scp_types::Fault;
 
 /// Whether the command puts something into a queue, or brings the nodes to rest.

@@ -20,10 +20,10 @@ use crate::tracing::TraceWatch;
 use scp_core::{KvDriver, each_node_holds_its_ledger};
 use scp_facts::a_step_is_told_as_it_happened;
 use scp_line::{PlayFault, a_script_has_room, new_network, play_lines};
-use scp_network::Network;
 use scp_script::count_of_nodes;
 use scp_script_check::{ReadFault, Script, read, text_of_warnings, warnings};
 use scp_stand_slot::Names;
+use scp_turn::Network;
 use scp_types::Fault;
 use std::alloc::Global;
 

@@ -4,10 +4,10 @@ ghost use Rattle.scp_stand_slot.specs.Adding.{Adds};
 ghost use Rattle.scp_trace.specs.Standing.{TellsNode};
 ghost use Rattle.scp_trace.specs.Playing.{IsPlaying};
 
-use scp_network::Network;
 use scp_script::Command;
 use scp_stand_node::{Lines, Seen, write_stand};
 use scp_stand_slot::Names;
+use scp_turn::Network;
 use scp_types::Fault;
 use std::alloc::Global;
 

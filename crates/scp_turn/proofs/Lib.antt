@@ -4,3 +4,15 @@ pub mod Resting
 pub mod AtRest
 pub mod Commands
 pub mod Taking
+pub mod GoingOn
+pub mod Draws
+pub mod Quiet
+pub mod Causes
+pub mod Episodes
+pub mod Hearing
+pub mod Lifting
+pub mod Transmitting
+pub mod Acting
+pub mod Settling
+pub mod Alone
+pub mod Linking

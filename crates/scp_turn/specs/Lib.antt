@@ -8,3 +8,10 @@ pub mod Commands
 pub mod Taking
 pub mod Kv
 pub mod inside
+pub mod Episode
+pub mod WentOut
+pub mod KvEpisodes
+pub mod Heard
+pub mod Rounds
+pub mod Network
+pub mod Linked

@@ -3,8 +3,8 @@
 use Rattle.std.specs.Prelude.{◌≤◌, ◌≡◌, ◌⊎◌, List, length}
 use Rattle.scp_types.specs.declared.limits.TheConstants.{NODE_LIMIT}
 use Rattle.scp_types.specs.declared.fault.Fault.TheVariants.{Failed as failing, Full as full}
-use Rattle.scp_network.specs.Heard.{Heard}
-use Rattle.scp_network.specs.Network.{NetworkView}
+use Rattle.scp_turn.specs.Heard.{Heard}
+use Rattle.scp_turn.specs.Network.{NetworkView}
 use Rattle.scp_script.specs.declared.command.Command.{Command}
 use Rattle.scp_script.specs.Nodes.{IsSmall}
 use Rattle.scp_line.specs.declared.playing.PlayFault.{PlayFault}

@@ -7,7 +7,7 @@ use Rattle.scp_core.specs.declared.event.Event.TheVariants.{SlotTake}
 use Rattle.scp_core.specs.declared.event.Reply.{Reply}
 use Rattle.scp_core.specs.declared.event.Reply.TheVariants.{Moved}
 use Rattle.scp_core.specs.Kv.{NodeView}
-use Rattle.scp_network.specs.Heard.{Nodes}
+use Rattle.scp_turn.specs.Heard.{Nodes}
 use Rattle.scp_script.specs.declared.command.Command.{Command}
 use Rattle.scp_notices.specs.declared.commands.Told.{Told}
 use Rattle.scp_notices.specs.Run.{with_cut}

@@ -1,5 +1,5 @@
 use Rattle.std.proofs.Common.{◌≡◌, ◌∙◌, ℕ, List, ap, subst, sym, string_bytes}
-use Rattle.scp_network.specs.Heard.{Nodes}
+use Rattle.scp_turn.specs.Heard.{Nodes}
 use Rattle.scp_report.specs.Node.{reports_of}
 use Rattle.scp_account.specs.declared.node.Mode.TheVariants as ways
 use Rattle.scp_account.specs.Account.{account_text}

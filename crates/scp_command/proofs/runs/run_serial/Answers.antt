@@ -1,6 +1,6 @@
 use Rattle.std.proofs.Common.{◌≡◌, ◌∙◌, ℕ, List, ap, sym, subst, string_bytes}
 use Rattle.std.specs.Prelude.{All, IfOk}
-use Rattle.scp_network.specs.Heard.{Nodes}
+use Rattle.scp_turn.specs.Heard.{Nodes}
 use Rattle.scp_script.specs.declared.command.Command.{Command}
 use Rattle.scp_script.specs.Nodes.{NamesNodes}
 use Rattle.scp_notices.specs.Run.{IsRan, IsRunFault}

@@ -1,8 +1,8 @@
 use Rattle.std.proofs.Common.{rules, ◌≡◌, Some, refl}
 use Rattle.std.proofs.lemmas.Result.{err_from_is_err_and}
 use Rattle.scp_types.specs.declared.fault.Fault.TheVariants.{Failed}
-use Rattle.scp_network.specs.scp_core.specs.declared.event.Reply.TheVariants.{Accepted, Full}
-use Rattle.scp_network.specs.scp_turn.specs.Watch.{notes}
+use Rattle.scp_turn.specs.scp_core.specs.declared.event.Reply.TheVariants.{Accepted, Full}
+use Rattle.scp_turn.specs.Watch.{notes}
 use Rattle.scp_line.specs.Nodes.{moment}
 use Rattle.scp_line.proofs.Acting.{again_settle_fails, again_missed, again_accepted, again_full, again_wants, again_refused}
 use Rattle.scp_line.proofs.nodes.act_again.Goals as goal

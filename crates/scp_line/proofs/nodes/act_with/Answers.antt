@@ -1,6 +1,6 @@
 use Rattle.std.proofs.Common.{◌≡◌, ◌∙◌, Some, sym}
-use Rattle.scp_network.specs.scp_core.specs.declared.event.Reply.TheVariants.{Accepted, Full}
-use Rattle.scp_network.specs.scp_turn.specs.Watch.{notes}
+use Rattle.scp_turn.specs.scp_core.specs.declared.event.Reply.TheVariants.{Accepted, Full}
+use Rattle.scp_turn.specs.Watch.{notes}
 use Rattle.scp_line.specs.Nodes.{moment}
 use Rattle.scp_line.proofs.Acting.{acts_accepted, acts_full}
 use Rattle.scp_line.proofs.nodes.act_with.Goals as goal

@@ -1,6 +1,6 @@
 use Rattle.std.proofs.Common.{◌≡◌, ◌<◌, ◌+◌, ◌∷◌, ◌++◌, [], ℕ, List, length, get_or, ap, sym, subst, arith}
 use Rattle.std.proofs.lemmas.List.{length-append}
-use Rattle.scp_network.specs.scp_core.specs.Kv.{NodeView}
+use Rattle.scp_turn.specs.scp_core.specs.Kv.{NodeView}
 use Rattle.scp_line.specs.Play.{IsNew}
 use Rattle.scp_line.proofs.Making.{one_node_more}
 use Rattle.scp_line.proofs.nodes.new_nodes.Goals as goal

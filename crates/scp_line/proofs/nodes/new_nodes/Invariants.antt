@@ -1,5 +1,5 @@
 use Rattle.std.proofs.Common.{◌≡◌, ◌+◌, ◌<◌, ℕ, length, get_or}
-use Rattle.scp_network.specs.scp_core.specs.Kv.{NodeView}
+use Rattle.scp_turn.specs.scp_core.specs.Kv.{NodeView}
 use Rattle.scp_line.specs.Play.{IsNew}
 use Rattle.scp_line.proofs.nodes.new_nodes.Given as goal
 

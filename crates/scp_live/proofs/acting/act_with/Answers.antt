@@ -5,7 +5,7 @@ use Rattle.scp_types.specs.declared.fault.Fault.TheVariants.{Failed}
 use Rattle.scp_types.specs.declared.names.Hash.{Hash}
 use Rattle.scp_turn.specs.Watch.{notes}
 use Rattle.scp_turn.specs.Kv.{Watched}
-use Rattle.scp_episode.specs.declared.playing.Played.{Played}
+use Rattle.scp_turn.specs.declared.playing.Played.{Played}
 use Rattle.scp_live.proofs.Reporting.{memory_alone, memory_isnt}
 use Rattle.scp_live.proofs.Texts.{acts_beside, refuses_beside, ok_isnt, same_fault, same_cause}
 use Rattle.scp_live.proofs.acting.act_with.Goals as goal

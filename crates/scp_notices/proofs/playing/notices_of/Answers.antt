@@ -2,7 +2,7 @@ use Rattle.std.proofs.Common.{◌≡◌, ◌∙◌, ◌++◌, ℕ, List, length,
 use Rattle.std.specs.Prelude.{All}
 use Rattle.scp_apply.specs.Applied.{AreInOrder}
 use Rattle.scp_core.specs.Kv.{NodeView}
-use Rattle.scp_network.specs.Heard.{Nodes}
+use Rattle.scp_turn.specs.Heard.{Nodes}
 use Rattle.scp_script.specs.declared.command.Command.{Command}
 use Rattle.scp_line.specs.scp_report.specs.declared.report.Report.{Report}
 use Rattle.scp_line.specs.scp_report.specs.Report.{ReportView, view_of}

@@ -1,4 +1,0 @@
-pub mod Episode
-pub mod Laws
-pub mod Kv
-pub mod inside

@@ -1,5 +1,0 @@
-use Rattle.std.proofs.Common.{length}
-use Rattle.scp_network.proofs.linked.+are_ids.Given as goal
-
-abbrev pub decreases-are_ids : goal.decreases-are_ids
-decreases-are_ids l = length l.nodes.now
