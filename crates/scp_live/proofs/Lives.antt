@@ -15,9 +15,8 @@ use Rattle.scp_again.specs.Again.{again_of}
 use Rattle.scp_again.specs.Ascending.{Ascend}
 use Rattle.scp_again.specs.Laws.{NeverGoesBack, NodesNeverGoBack}
 use Rattle.scp_turn.specs.Turn.{events_of, links_of}
-use Rattle.scp_turn.specs.Kv.{Does}
+use Rattle.scp_turn.specs.Kv.{Does, FollowsOn}
 use Rattle.scp_turn.specs.Episode.{Follows, drains_of, leaving_at}
-use Rattle.scp_turn.specs.KvEpisodes.{FollowsOn}
 use Rattle.scp_turn.specs.Rest.{Then}
 use Rattle.scp_live.specs.Episodes.{AnEpisode, AreEpisodes, SameEventsSameEpisodes, FurtherEventsGoOn}
 use Rattle.scp_live.proofs.Agains.{same_again}

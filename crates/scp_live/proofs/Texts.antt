@@ -11,11 +11,10 @@ use Rattle.scp_core.specs.declared.event.Event.{Event}
 use Rattle.scp_core.specs.declared.event.Reply.{Reply}
 use Rattle.scp_core.specs.History.{Exchange}
 use Rattle.scp_core.specs.Kv.{NodeView}
-use Rattle.scp_turn.specs.Kv.{Goes}
+use Rattle.scp_turn.specs.Kv.{Goes, IsEpisode}
 use Rattle.scp_turn.specs.declared.sending.Sending.{Sending}
 use Rattle.scp_turn.specs.declared.playing.Played.{Played}
 use Rattle.scp_turn.specs.Episode.{sent_in, finds_full}
-use Rattle.scp_turn.specs.KvEpisodes.{IsEpisode}
 use Rattle.scp_live_lines.specs.Timers.{changes}
 use Rattle.scp_live.specs.Live.{IsTold, refusal, sent_line, new_fates, new_decisions, newly_applied, told_of}
 

@@ -7,7 +7,7 @@ use Rattle.scp_core.specs.Kv.{NodeView, LedgerTheorem}
 use Rattle.scp_core.specs.Same.{ShowSameNode}
 use Rattle.scp_again.specs.Laws.{NeverGoesBack}
 use Rattle.scp_turn.specs.Rest.{Then}
-use Rattle.scp_turn.specs.KvEpisodes.{IsEpisode}
+use Rattle.scp_turn.specs.Kv.{IsEpisode}
 
 -- An episode that begins with this event, whatever its reply.
 abbrev pub AnEpisode : Event → NodeView → List Exchange → NodeView → Type 0

@@ -11,7 +11,7 @@ use Rattle.scp_core.specs.History.{Exchange}
 use Rattle.scp_core.specs.Kv.{NodeView}
 use Rattle.scp_turn.specs.declared.sending.Sending.{Sending}
 use Rattle.scp_turn.specs.Episode.{sent_in}
-use Rattle.scp_turn.specs.KvEpisodes.{IsEpisode}
+use Rattle.scp_turn.specs.Kv.{IsEpisode}
 use Rattle.scp_live_config.specs.Names.{Identity}
 use Rattle.scp_live_lines.specs.Names.{name_at}
 use Rattle.scp_live_lines.specs.Sent.{send_line}

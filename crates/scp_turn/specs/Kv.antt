@@ -1,14 +1,17 @@
--- The turns of nodes whose values are operation lists (this project's profile).
+-- Turns and episodes of nodes whose values are operation lists (this project's profile).
 use Rattle.std.specs.Prelude.{ℕ, Bool, List}
 use Rattle.scp_driver.specs.declared.kv_driver.KvDriver.{KvDriver}
 use Rattle.scp_driver.specs.Kv.{kv_says}
 use Rattle.scp_turn.specs.Commands.{TakenCommand}
+use Rattle.scp_core.specs.declared.event.Event.{Event}
+use Rattle.scp_core.specs.declared.event.Reply.{Reply}
 use Rattle.scp_core.specs.History.{Exchange}
 use Rattle.scp_core.specs.Kv.{NodeView}
 use Rattle.scp_turn.specs.Taking as commands
 use Rattle.scp_turn.specs.Turn as turn
 use Rattle.scp_turn.specs.Rest as rest
 use Rattle.scp_turn.specs.Watch as watch
+use Rattle.scp_turn.specs.Episode as episode
 
 -- these exchanges are steps of a node, each from what the one before it left
 abbrev pub Does : NodeView → List Exchange → NodeView → Type 0
@@ -41,3 +44,11 @@ Watched Note number w old heard new z = watch.Watched kv_says Note number w old 
 -- the commands that such a node's slot stage took in a whole run are the first of those that it was given, each once, in order
 abbrev pub AllIsTakenInTurn : Type 0
 AllIsTakenInTurn = commands.AllIsTakenInTurn kv_says
+
+-- after an event that was accepted the node comes to rest and what waits goes out; after one that was refused nothing follows
+abbrev pub FollowsOn : Reply → NodeView → List Exchange → NodeView → Type 0
+FollowsOn reply old heard new = episode.FollowsOn kv_says reply old heard new
+
+-- an episode of an event: its step, and what follows from it
+abbrev pub IsEpisode : Event → Reply → NodeView → List Exchange → NodeView → Type 0
+IsEpisode event reply old heard new = episode.IsEpisode kv_says event reply old heard new

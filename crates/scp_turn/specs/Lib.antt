@@ -10,7 +10,6 @@ pub mod Kv
 pub mod inside
 pub mod Episode
 pub mod WentOut
-pub mod KvEpisodes
 pub mod Heard
 pub mod Rounds
 pub mod Network

@@ -8,7 +8,7 @@ ghost use Rattle.scp_turn.specs.Heard.{Noted};
 ghost use Rattle.scp_turn.specs.Network.{Settled};
 
 use crate::linked::SIDE;
-use crate::stepping::{either, hear, work};
+use crate::stepping::{either, hear, work_at};
 use crate::{Event, KvDriver, Node, Reply, Watch};
 use scp_types::{NETWORK_LIMIT, ROUND_LIMIT};
 
@@ -110,7 +110,7 @@ fn turn<W: Watch<KvDriver>>(
     ensures { Acts (Noted (notes W.notes_before W.notes_after) watch.old watch.new) nodes.old.items nodes.new.items (IsTurn driven.now (length nodes.old.items) (index + 1)) result }
 {
     let links = (nodes.len() - 1) as u8;
-    let moved = work(nodes, watch, index, links);
+    let moved = work_at(nodes, watch, index, links);
     let sent = carry_all(nodes, watch, driven, index);
     either(moved, sent)
 }

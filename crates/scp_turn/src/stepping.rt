@@ -32,7 +32,7 @@ pub fn either(first: bool, second: bool) -> bool
 }
 
 /// What the stages of a node with this many links do in its turn. Returns whether anything moved.
-pub fn work<W: Watch<KvDriver>>(
+pub fn work_at<W: Watch<KvDriver>>(
     nodes: &mut Vec<Node>,
     watch: &mut W,
     index: usize,

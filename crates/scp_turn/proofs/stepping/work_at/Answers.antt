@@ -3,7 +3,7 @@ use Rattle.std.specs.Prelude.{slice_get}
 use Rattle.std.proofs.lemmas.Option.{slice_get-get_or}
 use Rattle.scp_turn.specs.Watch.{notes}
 use Rattle.scp_turn.proofs.Lifting.{works}
-use Rattle.scp_turn.proofs.stepping.work.Goals as goal
+use Rattle.scp_turn.proofs.stepping.work_at.Goals as goal
 
 pub returns : goal.returns
 returns g c =
