@@ -8,10 +8,11 @@ ghost use Rattle.scp_turn.specs.Turn.{Goes, IsTurn, IsStill, events_of, reader_e
 ghost use Rattle.scp_turn.specs.Rest.{Rests};
 ghost use Rattle.scp_turn.specs.inside.Acting.{Acts, IsStage};
 
+use crate::resting::rest;
 use crate::watch::{NoWatch, Watch};
 use scp_core::{Event, Node, Reply};
 use scp_driver::Application;
-use scp_types::{LINK_LIMIT, ROUND_LIMIT};
+use scp_types::LINK_LIMIT;
 
 /// One event at the node of this number; the watch is shown it before and after.
 pub fn step_with<A: Application + Drop + Copy, W: Watch<A>>(
@@ -150,10 +151,5 @@ pub fn turn<A: Application + Drop + Copy>(node: &mut Node<A>) -> bool
 pub fn settle<A: Application + Drop + Copy>(node: &mut Node<A>) -> bool
     ensures { Goes A.says node.old node.new (Rests A.says result) }
 {
-    for _ in 0..ROUND_LIMIT {
-        if !turn(node) {
-            return true;
-        }
-    }
-    false
+    rest(node, &mut NoWatch)
 }
