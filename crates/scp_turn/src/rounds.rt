@@ -8,7 +8,8 @@ ghost use Rattle.scp_turn.specs.Heard.{Noted};
 ghost use Rattle.scp_turn.specs.Network.{Settled};
 
 use crate::linked::SIDE;
-use crate::stepping::{either, hear, work_at};
+use crate::stepping::{hear, work_at};
+use crate::turns::either;
 use crate::{Event, KvDriver, Node, Reply, Watch};
 use scp_types::{NETWORK_LIMIT, ROUND_LIMIT};
 

@@ -1,5 +1,5 @@
 //! The steps of one node among several.
-ghost use Rattle.std.specs.Prelude.{◌≡◌, ◌<◌, ◌≤◌, ◌+◌, ◌||◌, length};
+ghost use Rattle.std.specs.Prelude.{◌≡◌, ◌<◌, ◌≤◌, ◌+◌, length};
 ghost use Rattle.scp_types.specs.declared.limits.TheConstants.{NETWORK_LIMIT};
 ghost use Rattle.scp_turn.specs.Watch.{notes};
 ghost use Rattle.scp_turn.specs.Turn.{stage_events};
@@ -22,13 +22,6 @@ pub fn hear<W: Watch<KvDriver>>(
     ensures { IsAnswered (Noted (notes W.notes_before W.notes_after) watch.old watch.new) nodes.old.items (index + 1) event result nodes.new.items }
 {
     step_with(&mut nodes[index], index as u8 + 1, watch, event)
-}
-
-/// Whether one of the two moved something.
-pub fn either(first: bool, second: bool) -> bool
-    ensures { result ≡ (first || second) }
-{
-    first || second
 }
 
 /// What the stages of a node with this many links do in its turn. Returns whether anything moved.

@@ -33,7 +33,7 @@ pub fn step_with<A: Application + Drop + Copy, W: Watch<A>>(
 }
 
 /// Whether one of the two moved something.
-fn either(first: bool, second: bool) -> bool
+pub fn either(first: bool, second: bool) -> bool
     ensures { result ≡ (first || second) }
 {
     first || second
