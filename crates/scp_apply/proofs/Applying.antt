@@ -57,14 +57,14 @@ apart ds place k d one within lt ne = elim (cases_lt k place) [
 -- how far a loop of the applier is: what it began with, and what it has now
 pub record IsAdvancing {S : Type 0} (after' : S → List ℕ → S) (start : Slots) (before : S) (now : Slots) (state : S) : Type 0 where
   pub is_applied : IsApplied now
-  pub before : now.before ≡ start.before
+  pub same_start : now.before ≡ start.before
   pub shared_out : IsPermutation (start.applied.items ++ start.buffer.items) (now.applied.items ++ now.buffer.items)
   pub more : List Decision
   pub grows : now.applied.items ≡ start.applied.items ++ more
   pub state_is : state ≡ made_of before after' more
 
 pub begins : {S : Type 0} (after' : S → List ℕ → S) (start : Slots) (before : S) → IsApplied start → IsAdvancing after' start before start before
-begins after' start before h = record { is_applied = h; before = refl; shared_out = IsPermutation-refl (start.applied.items ++ start.buffer.items); more = []; grows = sym (append-nil start.applied.items); state_is = refl }
+begins after' start before h = record { is_applied = h; same_start = refl; shared_out = IsPermutation-refl (start.applied.items ++ start.buffer.items); more = []; grows = sym (append-nil start.applied.items); state_is = refl }
 
 pub goes_on : {S : Type 0} (after' : S → List ℕ → S) (start : Slots) (before : S) (now : Slots) (state : S) (place : ℕ) (next : Slots) (then' : S) → place < length now.buffer.items → ((d : Decision) → is_at (next_in now) (get_or now.buffer.items place d) ≡ true) → AppliesOne after' now state place next then' → next.before ≡ now.before → IsAdvancing after' start before now state → IsAdvancing after' start before next then'
 goes_on after' start before now state place next then' within at one same h =
@@ -83,7 +83,7 @@ goes_on after' start before now state place next then' within at one same h =
         near = subst (λ (n : ℕ). All (λ (x : Decision). x.slot.0 < n + WINDOW) next.buffer.items) (sym further) (rw one.buffer (all_but (λ (x : Decision). x.slot.0 < next_in now + 1 + WINDOW) buffer place d within (λ k lt ne. let here = h.is_applied.near k d lt in omega (arith, here))));
         one = rw one.buffer (all_pairs_remove (λ (x y : Decision). x.slot.0 ≢ y.slot.0) buffer place within h.is_applied.one);
       };
-      before = same ∙ h.before;
+      same_start = same ∙ h.same_start;
       shared_out = rw (one.applied, one.buffer) moved;
       more = h.more ++ d ∷ [];
       grows = one.applied ∙ ap (λ (ds : List Decision). ds ++ d ∷ []) h.grows ∙ append_assoc start.applied.items h.more (d ∷ []);
