@@ -22,11 +22,11 @@
 mod ends;
 mod gathering;
 mod laws;
-mod travelling;
+mod travel;
 
 pub use ends::{Ends, first_failed, has_failed};
 pub use gathering::{Gathering, NodeReport, gather};
 pub use laws::{
     a_node_holds_so_much, what_ends_well_is_gathered, what_is_reported_keeps_the_headline,
 };
-pub use travelling::{what_is_carried_is_sent_out, what_is_read_is_the_senders_own};
+pub use travel::{what_is_carried_is_sent_out, what_is_read_is_the_senders_own};

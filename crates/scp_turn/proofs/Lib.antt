@@ -1,5 +1,5 @@
 pub mod Going
-pub mod Sending
+pub mod Moving
 pub mod AtRest
 pub mod Commands
 pub mod Taking

@@ -1,5 +1,5 @@
 use Rattle.std.proofs.Common.{◌≡◌, ◌∙◌, true, false, sym}
-use Rattle.scp_turn.proofs.Sending.{acts_moved}
+use Rattle.scp_turn.proofs.Moving.{acts_moved}
 use Rattle.scp_turn.specs.Watch.{notes}
 use Rattle.scp_turn.proofs.turns.stage.Goals.{in-Moved, in_default}
 use Rattle.scp_turn.proofs.turns.stage.Goals as goal
