@@ -42,6 +42,7 @@ pub struct Decider<A: Application + Drop + Copy> {
 }
 
 impl<A: Application + Drop + Copy> Model for Decider<A> {
+    ghost use Rattle.std.specs.Prelude.{is_some};
     ghost use Rattle.std.specs.Coded.{codes};
     ghost use Rattle.scp_xdr.specs.inside.TreeModel.{coded_row};
     ghost use Rattle.scp_quorum.specs.inside.QuorumTree.{coded_level};
