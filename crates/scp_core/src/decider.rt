@@ -91,7 +91,8 @@ impl<A: Application + Drop + Copy> Decider<A> {
 
     /// Why it failed, if it did.
     pub fn why_failed(&self) -> Option<Fault>
-        ensures { result ≡ self.now.fault }
+        ensures same { result ≡ self.now.fault }
+        ensures failed { is_some result ≡ self.now.failed }
     {
         self.failed
     }
