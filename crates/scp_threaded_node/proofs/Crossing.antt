@@ -169,7 +169,7 @@ fate_send : IsSend message.the_row → IsSend sane.the_row → IsSync sane.the_r
 fate_send m s y = variants_send fate.enum ((conns.the_send, (seqs.the_send, (m, (search (sendable, crosses) depth 20, (verdicts.the_send, tt))))), ((conns.the_send, (seqs.the_send, (drops.the_send, tt))), ((conns.the_send, (causes.the_send, tt)), tt)))
 
 ledger_state_send : (d : RattleType) → IsSend d → IsSend sane.the_row → IsSync sane.the_row → IsSend fate.the_row → IsSend (machine.the_row d) → IsSend (ledger_state.the_row d)
-ledger_state_send d crossing s y f m = declared_send (ledger_state.the_type d) (search (sendable, crosses) depth 20, (nodes.the_send, (Arc-send sane.the_row s y, (search (sendable, crossing) depth 20, (search (sendable, crosses, nodes.the_send) depth 20, (search (sendable, crosses) depth 20, (search (sendable, crosses, decisions.the_send) depth 20, (windows.the_send, (search (sendable, maps.crosses) depth 20, (search (sendable, maps.crosses, askings.the_send) depth 20, tt))))))))))
+ledger_state_send d crossing s y f m = declared_send (ledger_state.the_type d) (search (sendable, crosses) depth 20, (nodes.the_send, (Arc-send sane.the_row s y, (search (sendable, crossing) depth 20, (search (sendable, crosses, nodes.the_send) depth 20, (search sendable depth 20, (search (sendable, crosses) depth 20, (search (sendable, crosses, decisions.the_send) depth 20, (windows.the_send, (search (sendable, maps.crosses) depth 20, (search (sendable, maps.crosses, askings.the_send) depth 20, tt)))))))))))
 
 ledger_send : (d : RattleType) (ghosts : _) → IsSend (ledger_state.the_row d) → IsSend (ledger.the_row d ghosts)
 ledger_send d ghosts s = view_send _ _ _ _ _ (declared_send (ledger_inside.the_type d ghosts) (s, (search sendable depth 20, tt)))
