@@ -178,15 +178,6 @@ module _ {D : Type 0} (says : Says D) where
   abbrev pub GoesWatched : {W : Type 0} → Noting D W → Result Played Fault → Event → W → NodeView D → NodeView D → W → Type 0
   GoesWatched {W} Note r e w old new z = Goes says old new (λ a heard b. IsPlayed r e a heard b × Watched says Note 1 w a heard b z × (IsErrOf r JournalFull ↔ (finds_full heard ≡ true)))
 
-  -- of an event that nobody watched
-  abbrev pub GoesPlayed : Result Played Fault → Event → NodeView D → NodeView D → Type 0
-  GoesPlayed r e old new = Goes says old new (λ a heard b. IsPlayed r e a heard b × (IsErrOf r JournalFull ↔ (finds_full heard ≡ true)))
-
-  pub unwatched : {W : Type 0} (Note : Noting D W) (r : Result Played Fault) (e : Event) (w z : W) (a b : NodeView D) → GoesWatched Note r e w a b z → GoesPlayed r e a b
-  unwatched Note r e w z a b g =
-      goes_as says a b (λ o heard n. IsPlayed r e o heard n × Watched says Note 1 w o heard n z × (IsErrOf r JournalFull ↔ (finds_full heard ≡ true))) (λ o heard n. IsPlayed r e o heard n × (IsErrOf r JournalFull ↔ (finds_full heard ≡ true)))
-      (λ heard does p. (p.0, p.2)) g
-
   -- a node that had failed hears nothing
   pub had_failed : {W : Type 0} (Note : Noting D W) (e : Event) (w : W) (a : NodeView D) → GoesWatched Note (Err Failed) e w a a w
   had_failed Note e w a = goes_nothing says a (λ o heard n. IsPlayed (Err Failed) e o heard n × Watched says Note 1 w o heard n w × (IsErrOf {T = Played} {E = Fault} (Err Failed) JournalFull ↔ (finds_full heard ≡ true))) (tt, (refl, refl), (λ is. absurd cc, λ found. let none : false ≡ true = found in absurd cc))
