@@ -133,7 +133,7 @@ Comes r place entry u heard v = OnOk r (IsReplayed entry u heard v) × (r ≡ Er
 none_in : (hash : Hash) (heard : List Exchange) → EventFull (Ok hash) heard → finds_full heard ≡ true → ⊥
 none_in hash heard told found = ok_isnt (Ok hash) hash JournalFull refl (told.1 found)
 
-failed_same : (f g : Fault) → Err {T = Unit {0}} {E = LogFault} (Failed f) ≡ Err (Failed g) → f ≡ g
+failed_same : (f g : Fault) → IsErrOf {T = Unit {0}} (Err (Failed f)) (Failed g) → f ≡ g
 failed_same f g e = cc
 
 -- why no event was read
@@ -159,7 +159,7 @@ act_fault f a runs failed only =
     (λ (more : (f ≡ JournalFull) ⊎ (f ≡ faults.Failed)).
     ⊎_elim
     (λ (e : f ≡ JournalFull). inr e)
-    (λ (e : f ≡ faults.Failed). absurd (clash a.failed runs (failed.0 (ap (λ (x : Fault). Err {T = Hash} x) e))))
+    (λ (e : f ≡ faults.Failed). absurd (clash a.failed runs (failed.0 (ap (λ (x : Fault). Err x) e))))
     more)
     only
 
@@ -178,8 +178,8 @@ not_played f place entry u v E P g = record {
       tt,
       λ is. absurd cc,
       (
-        λ full. g.is.2.0 (ap (λ (x : Fault). Err {T = Hash} x) (failed_same f JournalFull full)),
-        λ found. ap (λ (x : Fault). Err {T = Unit {0}} (Failed x)) (same_fault f JournalFull (g.is.2.1 found)),
+        λ full. g.is.2.0 (ap (λ (x : Fault). Err x) (failed_same f JournalFull full)),
+        λ found. ap (λ (x : Fault). Err (Failed x)) (same_fault f JournalFull (g.is.2.1 found)),
       ),
     ),
     g.is.1,
@@ -245,10 +245,10 @@ refused_at {W} Note f entries place entry u v w first mid last lt is fault runs 
 -- all of them were played
 pub all_replayed : {W : Type 0} (Note : Noting W) (entries : List EntryView) (place : ℕ) (u v : LiveView) (first last : W) → length entries ≤ place → v.node.failed ≡ false
     → Heard u.node v.node (λ heard. AreReplayed (take place entries) u heard v × Watched Note 1 first u.node heard v.node last)
-    → Heard u.node v.node (λ heard. (AreReplayed entries u heard v × ((n : ℕ) → Ok {T = Unit {0}} {E = LogFault} tt ≡ Err (Damaged n) → IsUnfitAt entries n u heard v) × EntryFull (Ok tt) heard) × Watched Note 1 first u.node heard v.node last)
+    → Heard u.node v.node (λ heard. (AreReplayed entries u heard v × ((n : ℕ) → IsErrOf {T = Unit {0}} (Ok tt) (Damaged n) → IsUnfitAt entries n u heard v) × EntryFull (Ok tt) heard) × Watched Note 1 first u.node heard v.node last)
 all_replayed {W} Note entries place u v first last le runs p =
     heard_as u.node v.node (λ heard. (AreReplayed (take place entries) u heard v × Watched Note 1 first u.node heard v.node last) × (finds_full heard ≡ true → ⊥))
-    (λ heard. (AreReplayed entries u heard v × ((n : ℕ) → Ok {T = Unit {0}} {E = LogFault} tt ≡ Err (Damaged n) → IsUnfitAt entries n u heard v) × EntryFull (Ok tt) heard) × Watched Note 1 first u.node heard v.node last)
+    (λ heard. (AreReplayed entries u heard v × ((n : ℕ) → IsErrOf {T = Unit {0}} (Ok tt) (Damaged n) → IsUnfitAt entries n u heard v) × EntryFull (Ok tt) heard) × Watched Note 1 first u.node heard v.node last)
     (λ heard a. (
       (
         subst (λ (l : List EntryView). AreReplayed l u heard v) (take_all place entries le) a.0.0,

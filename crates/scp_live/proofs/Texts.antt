@@ -52,17 +52,17 @@ GoesBeside r old new P E = Goes old new (λ a heard b. IfOk r (λ x. P x a heard
 
 -- a call that returns something has no fault
 pub ok_isnt : {T : Type 0} (r : Result T Fault) (x : T) (f : Fault) → r ≡ Ok x → IsErrOf r f → ⊥
-ok_isnt {T} r x f is err = let e : Ok {T = T} {E = Fault} x ≡ Err f = sym is ∙ err in absurd cc
+ok_isnt {T} r x f is err = let e : IsErrOf {T = T} (Ok x) f = sym is ∙ err in absurd cc
 
 -- no full journal is reported if there was no memory to report it
 lines_arent : (s : Result Hash Fault) → IsOkUnless s NoMemory → IsErrOf s JournalFull → ⊥
 lines_arent (Ok hash) only full = absurd cc
 lines_arent (Err fault) only full = cc
 
-pub same_fault : (f g : Fault) → Err {T = Hash} {E = Fault} f ≡ Err g → f ≡ g
+pub same_fault : (f g : Fault) → IsErrOf {T = Hash} (Err f) g → f ≡ g
 same_fault f g e = cc
 
-pub same_cause : (f g : Fault) → Err {T = Played} {E = Fault} f ≡ Err g → f ≡ g
+pub same_cause : (f g : Fault) → IsErrOf {T = Played} (Err f) g → f ≡ g
 same_cause f g e = cc
 
 -- all of it was told, or there was no memory to tell it
@@ -81,7 +81,7 @@ pub refuses_beside : (r : Result Played Fault) (fault : Fault) (event : Event) (
     → r ≡ Err fault → GoesBeside r old new (λ p o heard n. IsEpisode event p.reply o heard n × (p.sent.items ≡ sent_in heard)) E → GoesBeside {T = Hash} (Err fault) old new (λ hash o heard n. IsTold event names before after' o heard n text longer hash.0) E
 refuses_beside r fault event names before after' old new text longer E is g = record {
   heard = g.heard;
-  is = (tt, g.is.1, (λ full. g.is.2.0 (is ∙ ap (λ (f : Fault). Err {T = Played} f) (same_fault fault JournalFull full)), λ found. ap (λ (f : Fault). Err {T = Hash} f) (same_cause fault JournalFull (sym is ∙ g.is.2.1 found))));
+  is = (tt, g.is.1, (λ full. g.is.2.0 (is ∙ ap (λ (f : Fault). Err f) (same_fault fault JournalFull full)), λ found. ap (λ (f : Fault). Err f) (same_cause fault JournalFull (sym is ∙ g.is.2.1 found))));
   does = g.does;
   theorem = g.theorem;
 }

@@ -10,7 +10,7 @@ use Rattle.scp_turn.specs.Kv.{Goes, Noting, Watched}
 use Rattle.scp_live.specs.scp_turn.specs.Episode.{finds_full}
 use Rattle.scp_live_process.proofs.Going.{Seen}
 
-same_fault : (f g : Fault) → Err {T = Hash} {E = Fault} f ≡ Err g → f ≡ g
+same_fault : (f g : Fault) → IsErrOf {T = Hash} (Err f) g → f ≡ g
 same_fault f g e = cc
 
 -- it was played
@@ -27,8 +27,8 @@ refused_as Note f told w z a b P same g = record {
     (
       tt,
       (
-        λ full. g.is.2.0 (ap (λ (x : Fault). Err {T = Hash} x) (same.0 (same_fault told JournalFull full))),
-        λ found. ap (λ (x : Fault). Err {T = Hash} x) (same.1 (same_fault f JournalFull (g.is.2.1 found))),
+        λ full. g.is.2.0 (ap (λ (x : Fault). Err x) (same.0 (same_fault told JournalFull full))),
+        λ found. ap (λ (x : Fault). Err x) (same.1 (same_fault f JournalFull (g.is.2.1 found))),
       ),
     ),
   );

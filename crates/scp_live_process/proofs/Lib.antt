@@ -6,7 +6,7 @@ pub mod Configs
 pub mod Served
 pub mod Started
 pub mod Refusing
-pub mod Acting
+pub mod Acts
 pub mod Standing
 pub mod Begun
 pub mod Ended

@@ -84,14 +84,14 @@ recover_not_full f only full =
 
 -- if a call of the log isn't refused, none was found
 pub log_unfilled : {T : Type 0} (x : T) (heard : List Exchange) → (IsErrOf {T = T} {E = LogFault} (Ok x) (Failed fault.JournalFull) ↔ (finds_full heard ≡ true)) → finds_full heard ≡ true → ⊥
-log_unfilled {T} x heard told found = let e : Ok {T = T} {E = LogFault} x ≡ Err (Failed fault.JournalFull) = told.1 found in cc
+log_unfilled {T} x heard told found = let e : IsErrOf {T = T} (Ok x) (Failed fault.JournalFull) = told.1 found in cc
 
 -- one that was found later, after what a node heard that ran
 pub fault_behind : {T : Type 0} (f : Fault) (x y : List Exchange) → (finds_full x ≡ true → ⊥) → (IsErrOf {T = T} (Err f) fault.JournalFull ↔ (finds_full y ≡ true)) → ((Failed f ≡ Failed fault.JournalFull) ↔ (finds_full (x ++ y) ≡ true))
 fault_behind {T} f x y none told = (
-  λ full. found_later x y (told.0 (let same : f ≡ fault.JournalFull = cc in ap (λ (z : Fault). Err {T = T} z) same)),
+  λ full. found_later x y (told.0 (let same : f ≡ fault.JournalFull = cc in ap (λ (z : Fault). Err z) same)),
   λ found.
-      let err : Err {T = T} {E = Fault} f ≡ Err fault.JournalFull = told.1 (found_behind x y none found) in
+      let err : IsErrOf {T = T} (Err f) fault.JournalFull = told.1 (found_behind x y none found) in
       let same : f ≡ fault.JournalFull = cc in
       ap (λ (z : Fault). Failed z) same,
 )
@@ -100,15 +100,15 @@ pub log_behind : {T U : Type 0} (f : Fault) (x y : List Exchange) → (finds_ful
 log_behind {T} {U} f x y none told =
     let both = fault_behind {T = T} f x y none told in (
       λ full. both.0 (let same : Failed f ≡ Failed fault.JournalFull = cc in same),
-      λ found. ap (λ (z : LogFault). Err {T = U} z) (both.1 found),
+      λ found. ap (λ (z : LogFault). Err z) (both.1 found),
     )
 
 -- the fault that is reported, by what the start says of it
 pub fault_full : {T : Type 0} (f : LogFault) (heard : List Exchange) → (IsErrOf {T = T} (Err f) (Failed fault.JournalFull) ↔ (finds_full heard ≡ true)) → ((f ≡ Failed fault.JournalFull) ↔ (finds_full heard ≡ true))
 fault_full {T} f heard told = (
-  λ e. told.0 (ap (λ (z : LogFault). Err {T = T} z) e),
+  λ e. told.0 (ap (λ (z : LogFault). Err z) e),
   λ found.
-      let err : Err {T = T} {E = LogFault} f ≡ Err (Failed fault.JournalFull) = told.1 found in
+      let err : IsErrOf {T = T} (Err f) (Failed fault.JournalFull) = told.1 found in
       let same : f ≡ Failed fault.JournalFull = cc in
       same,
 )

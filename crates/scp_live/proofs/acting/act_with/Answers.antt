@@ -27,8 +27,8 @@ returns-in-Ok-clause-failed g c = (λ is. absurd (memory_isnt c.tell.result Fail
 
 pub returns-in-Err-clause-failed : goal.returns-in-Err-clause-failed
 returns-in-Err-clause-failed g c = (
-  λ is. c.play_with.ensures.failed.0 (c.in-Err.is ∙ ap (λ (f : Fault). Err {T = Played} f) (same_fault c.in-Err.fault Failed is)),
-  λ had. ap (λ (f : Fault). Err {T = Hash} f) (same_cause c.in-Err.fault Failed (sym c.in-Err.is ∙ c.play_with.ensures.failed.1 had)),
+  λ is. c.play_with.ensures.failed.0 (c.in-Err.is ∙ ap (λ (f : Fault). Err f) (same_fault c.in-Err.fault Failed is)),
+  λ had. ap (λ (f : Fault). Err f) (same_cause c.in-Err.fault Failed (sym c.in-Err.is ∙ c.play_with.ensures.failed.1 had)),
 )
 
 pub returns-in-Ok-clause-only : goal.returns-in-Ok-clause-only

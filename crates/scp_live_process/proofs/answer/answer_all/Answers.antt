@@ -5,7 +5,7 @@ use Rattle.scp_turn.specs.Watch.{notes}
 use Rattle.scp_live_process.specs.Answers.{IsAnswered, AreAnswered, next_number}
 use Rattle.scp_live_process.specs.inside.Adding.{Adds}
 use Rattle.scp_live_process.proofs.Going.{seen_as, seen_then, seen_running}
-use Rattle.scp_live_process.proofs.Acting.{full_behind}
+use Rattle.scp_live_process.proofs.Acts.{full_behind}
 use Rattle.scp_live_process.proofs.Answering.{one_added, number_on}
 use Rattle.scp_live_process.proofs.answer.answer_all.Goals as goal
 

@@ -2,7 +2,7 @@ use Rattle.scp_turn.specs.Watch.{notes}
 use Rattle.scp_live_process.specs.Answers.{IsDone}
 use Rattle.scp_live_process.specs.inside.Adding.{Adds}
 use Rattle.scp_live_process.proofs.Going.{seen_nothing}
-use Rattle.scp_live_process.proofs.Acting.{Told, asked_quietly, no_event, on_any, one_of_three}
+use Rattle.scp_live_process.proofs.Acts.{Told, asked_quietly, no_event, on_any, one_of_three}
 use Rattle.scp_live_process.proofs.answer.done.Goals as goal
 
 pub returns-in_default : goal.returns-in_default

@@ -3,7 +3,7 @@ use Rattle.scp_types.specs.declared.fault.Fault.{Fault}
 use Rattle.scp_turn.specs.Watch.{notes}
 use Rattle.scp_device.specs.Device.{GainsPart}
 use Rattle.scp_live_process.proofs.Going.{seen_as}
-use Rattle.scp_live_process.proofs.Acting.{unfilled, unfilled_yet}
+use Rattle.scp_live_process.proofs.Acts.{unfilled, unfilled_yet}
 use Rattle.scp_live_process.proofs.Served.{stays_by, batch_is}
 use Rattle.scp_live_process.proofs.serving.serve_batch.Goals as goal
 

@@ -8,7 +8,7 @@ use Rattle.scp_live_lines.specs.declared.asked.Asked.TheVariants.{Event}
 use Rattle.scp_live_process.specs.Closing.{IsNoEventLine}
 use Rattle.scp_live.proofs.Going.{none_found}
 use Rattle.scp_live_process.proofs.Going.{seen_nothing, seen_as}
-use Rattle.scp_live_process.proofs.Acting.{err_as, told_none, unfilled}
+use Rattle.scp_live_process.proofs.Acts.{err_as, told_none, unfilled}
 use Rattle.scp_live_process.proofs.Started.{close_added, event_not_full}
 use Rattle.scp_live_process.proofs.starting.close.Goals as goal
 

@@ -6,7 +6,7 @@ use Rattle.scp_turn.specs.Watch.{notes}
 use Rattle.scp_live_process.specs.Closing.{IsNoEventLine, close_line}
 use Rattle.scp_live_process.specs.inside.Replaying.{AddsCloses}
 use Rattle.scp_live_process.proofs.Going.{seen_nothing, seen_as, seen_then, seen_running}
-use Rattle.scp_live_process.proofs.Acting.{err_as, full_behind}
+use Rattle.scp_live_process.proofs.Acts.{err_as, full_behind}
 use Rattle.scp_live_process.proofs.Started.{none_closed, one_closed}
 use Rattle.scp_live_process.proofs.starting.close_all.Goals as goal
 

@@ -6,7 +6,7 @@ use Rattle.scp_live_log.specs.Log.{EntryView, batch_of}
 use Rattle.scp_live_process.specs.Closing.{HasNoCloseLine}
 use Rattle.scp_live.proofs.Going.{none_found}
 use Rattle.scp_live_process.proofs.Going.{seen_nothing, seen_as}
-use Rattle.scp_live_process.proofs.Acting.{err_as, full_as, unfilled, unfilled_yet}
+use Rattle.scp_live_process.proofs.Acts.{err_as, full_as, unfilled, unfilled_yet}
 use Rattle.scp_live_process.proofs.Served.{stays, stays_by}
 use Rattle.scp_live_process.proofs.Started.{are_closed}
 use Rattle.scp_live_process.proofs.starting.close_links.Goals as goal

@@ -8,7 +8,7 @@ use Rattle.scp_live.specs.Replays.{AreReplayed}
 use Rattle.scp_live_process.specs.Starting.{HasRead}
 use Rattle.scp_live.proofs.Going.{found_behind, none_found}
 use Rattle.scp_live_process.proofs.Going.{seen_nothing, seen_from, seen_then}
-use Rattle.scp_live_process.proofs.Acting.{unfilled}
+use Rattle.scp_live_process.proofs.Acts.{unfilled}
 use Rattle.scp_live_process.proofs.Served.{stays}
 use Rattle.scp_live_process.proofs.Started.{restarted}
 use Rattle.scp_live_process.proofs.Refusing.{recover_fault, replay_fault, close_fault, stays_unread, stays_read, log_err_as, recover_not_full, log_unfilled, log_behind}

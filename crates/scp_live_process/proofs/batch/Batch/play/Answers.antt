@@ -2,7 +2,7 @@ use Rattle.std.proofs.Common.{ap, sym, refl}
 use Rattle.scp_turn.specs.Watch.{notes}
 use Rattle.scp_live_process.specs.inside.Adding.{BatchView}
 use Rattle.scp_live_process.proofs.Going.{seen_as}
-use Rattle.scp_live_process.proofs.Acting.{plays, lives, full_as}
+use Rattle.scp_live_process.proofs.Acts.{plays, lives, full_as}
 use Rattle.scp_live_process.proofs.batch.Batch.play.Goals as goal
 
 pub returns-in-Ok-clause-played : goal.returns-in-Ok-clause-played

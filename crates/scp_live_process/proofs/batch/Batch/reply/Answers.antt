@@ -1,6 +1,6 @@
 use Rattle.std.proofs.Common.{ap, sym, refl}
 use Rattle.scp_live_process.specs.inside.Adding.{BatchView}
-use Rattle.scp_live_process.proofs.Acting.{says_again, tells, reply_as, reply_if, stands}
+use Rattle.scp_live_process.proofs.Acts.{says_again, tells, reply_as, reply_if, stands}
 use Rattle.scp_live_process.proofs.batch.Batch.reply.Goals as goal
 
 pub returns-in-Again-clause-told : goal.returns-in-Again-clause-told

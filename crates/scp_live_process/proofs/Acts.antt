@@ -41,7 +41,7 @@ Told r heard P = OnOk r P × TellsFull r heard
 
 -- if it isn't refused, none was found
 pub unfilled : {T : Type 0} (x : T) (heard : List Exchange) → TellsFull {T = T} (Ok x) heard → finds_full heard ≡ true → ⊥
-unfilled {T} x heard told found = let e : Ok {T = T} {E = Fault} x ≡ Err JournalFull = told.1 found in cc
+unfilled {T} x heard told found = let e : IsErrOf {T = T} (Ok x) JournalFull = told.1 found in cc
 
 -- a refusal is the same of any result
 pub err_as : {T U : Type 0} (f e : Fault) → IsErrOf {T = T} (Err f) e → IsErrOf {T = U} (Err f) e
