@@ -17,8 +17,8 @@ returns-in-Err-keep-clause-served g c =
     ))
     c.in-Ok.ensures.answered
 
-pub returns-in-Err-write-clause-served : goal.returns-in-Err-write-clause-served
-returns-in-Err-write-clause-served g c =
+pub returns-clause-served : goal.returns-clause-served
+returns-clause-served g c =
     seen_as (notes g.V.Watch.notes_before g.V.Watch.notes_after) c.args.watch.now c.answer_all.new.watch c.args.live.now.node c.answer_all.new.live.node _ _
     (λ heard p. (
       tt,
