@@ -1,19 +1,22 @@
 -- A run, of which its notices are told and another watch too.
-use Rattle.std.proofs.Common.{◌≡◌, ◌≢◌, ◌∙◌, ℕ, Bool, false, List, refl, sym, ap, subst, inl, inr}
+use Rattle.std.proofs.Common.{◌≡◌, ◌≢◌, ◌≤◌, ◌∙◌, ℕ, Bool, false, List, [], ◌∷◌, All, length, refl, sym, ap, subst, arith, inl, inr}
 use Rattle.std.specs.Prelude.{Result, Ok, Err, IfOk}
+use Rattle.scp_types.specs.declared.limits.TheConstants.{NODE_LIMIT}
 use Rattle.scp_types.specs.declared.fault.Fault.TheVariants as faults
 use Rattle.scp_core.specs.declared.event.Event.{Event}
 use Rattle.scp_core.specs.declared.event.Reply.{Reply}
 use Rattle.scp_core.specs.Kv.{NodeView}
-use Rattle.scp_turn.specs.Heard.{Nodes}
+use Rattle.scp_turn.specs.Heard.{Nodes, Heard}
 use Rattle.scp_turn.specs.Network.{NetworkView}
 use Rattle.scp_script.specs.declared.command.Command.{Command}
+use Rattle.scp_script.specs.Nodes.{NamesNodes}
 use Rattle.scp_line.specs.declared.player.Stopped.{Stopped}
 use Rattle.scp_line.specs.declared.watch.Both.{Both}
 use Rattle.scp_line.specs.Commands.{FatesAreOfTheirLines}
-use Rattle.scp_line.specs.Player.{Lining, lining, IsRun, IsStoppedBy}
+use Rattle.scp_line.specs.Player.{Lining, lining, AreLines, IsRun, IsStoppedBy}
 use Rattle.scp_line.specs.scp_report.specs.Node.{reports_of}
-use Rattle.scp_line.proofs.Runs.{run_as, run_from, cut_at, first_notes, second_notes}
+use Rattle.scp_line.proofs.Runs.{run_as, run_from, cut_at, first_notes, second_notes, noted_count}
+use Rattle.scp_line.proofs.Standing.{few_nodes}
 use Rattle.scp_script_check.specs.declared.reading.Script.{Script}
 use Rattle.scp_script_check.specs.Lines.{IsSaid}
 use Rattle.scp_notices.specs.declared.commands.Told.{Told}
@@ -74,3 +77,17 @@ watched_so L text script watch (Ok played) said same both =
     subst (λ (s : Script). (is : IsRan text s played.ran.network played.ran.notices.items) × IsWatched L s.commands.items s.lines.items played.ran.network played.ran.notices.items is.shows watch played.watch) (sym same)
     (record { said = said; shows = both.0 }, both.1)
 watched_so L text script watch (Err fault) said same both = tt
+
+-- there are as many nodes as before these lines
+lines_count : {W : Type 0} (L : Lining W) (all : List Command) (lines : List ℕ) (commands : List Command) (old new : W) (first last : Nodes) (heard : List Heard) → AreLines L all lines commands old first heard last new → length last ≡ length first
+lines_count L all [] [] old new first last heard so = ap (λ (ns : Nodes). length ns) so.1
+lines_count L all [] (c ∷ commands) old new first last heard so = absurd so
+lines_count L all (l ∷ lines) [] old new first last heard so = absurd so
+lines_count L all (l ∷ lines) (c ∷ commands) old new first last heard so =
+    lines_count L all lines commands so.0 new so.1 last so.3 so.6 ∙ noted_count L.steps so.5.begun so.5.done first so.1 so.2 so.5.noted
+
+-- the nodes of a script are at most eight
+pub few_ran : {W : Type 0} (L : Lining W) (commands : List Command) (lines : List ℕ) (network : NetworkView) (old new : W) → All NamesNodes commands → IsRun L commands lines network old new → length network.nodes ≤ NODE_LIMIT
+few_ran L commands lines network old new names run =
+    let count = lines_count L commands lines commands old new run.first network.nodes run.played.heard run.noted in
+    omega (arith, count, run.made.count, few_nodes commands names)

@@ -1,15 +1,22 @@
-use Rattle.std.proofs.Common.{◌≡◌, ◌≢◌, ◌∙◌, ℕ, List, sym, ap, subst}
+use Rattle.std.proofs.Common.{◌≡◌, ◌≢◌, ◌∙◌, ℕ, List, All, sym, ap, subst}
 use Rattle.scp_script.specs.declared.command.Command.{Command}
+use Rattle.scp_script.specs.Nodes.{NamesNodes}
 use Rattle.scp_line.specs.Headlines.{AreNodesHeadlined}
 use Rattle.scp_line.specs.Player.{IsRun, IsStoppedBy}
 use Rattle.scp_notices.specs.declared.playing.RunFault.{RunFault}
 use Rattle.scp_script_check.specs.scp_device.specs.declared.bad.ReadFault.TheVariants as reads
 use Rattle.scp_notices.specs.declared.playing.RunFault.TheVariants.{Unread}
 use Rattle.scp_notices.specs.inside.Playing.{IsStop}
-use Rattle.scp_notices.proofs.Runs.{both_note, pair, both_shown, stopped_in}
+use Rattle.scp_notices.proofs.Runs.{both_note, pair, both_shown, stopped_in, few_ran}
 use Rattle.scp_notices.proofs.Stops.{stop_so}
 use Rattle.scp_notices.proofs.Watching.{held}
 use Rattle.scp_notices.proofs.playing.played.Goals as goal
+
+pub notices_of-requires-clause-few : goal.notices_of-requires-clause-few
+notices_of-requires-clause-few g c =
+    let L = both_note g.W.LineWatch.notes_begin g.W.LineWatch.notes_end g.W.Watch.notes_before g.W.Watch.notes_after in
+    few_ran L c.as_slice-2.result.now c.as_slice-3.result.now c.play_lines.new.network (pair c.new.result c.args.watch) c.play_lines.new.watch
+    (subst (λ (cs : List Command). All NamesNodes cs) (sym c.as_slice-2.ensures.value) c.requires.names) c.in-Ok.ensures.played
 
 pub returns-clause-ran : goal.returns-clause-ran
 returns-clause-ran g c =
