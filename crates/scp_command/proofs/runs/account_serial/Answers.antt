@@ -1,4 +1,5 @@
-use Rattle.std.proofs.Common.{◌≡◌, ◌∙◌, ℕ, List, ap, subst, sym, string_bytes}
+use Rattle.std.proofs.Common.{◌≡◌, ◌≤◌, ◌∙◌, ℕ, List, length, ap, subst, sym, string_bytes}
+use Rattle.scp_types.specs.declared.limits.TheConstants.{NODE_LIMIT}
 use Rattle.scp_turn.specs.Heard.{Nodes}
 use Rattle.scp_report.specs.Node.{reports_of}
 use Rattle.scp_account.specs.declared.node.Mode.TheVariants as ways
@@ -9,13 +10,20 @@ use Rattle.scp_account.specs.Run.{keeping}
 use Rattle.scp_notices.specs.scp_line.specs.declared.watch.Steps.{Steps}
 use Rattle.scp_prompt.specs.declared.asked.Mode.TheVariants.{Serial}
 use Rattle.scp_prompt.specs.declared.asked.Shape.TheVariants.{Settled}
-use Rattle.scp_notices.specs.Run.{IsRan, IsRunFault, IsWatched}
+use Rattle.scp_notices.specs.Run.{noticing, nothing_noted, IsRan, IsRunFault, IsWatched}
+use Rattle.scp_notices.proofs.Runs.{few_ran}
 use Rattle.scp_command.specs.inside.Runs.{IsUntold}
 use Rattle.scp_command.proofs.Accounting.{account_answer, kept_of, not_run, not_told, want_fails}
 use Rattle.scp_command.proofs.runs.account_serial.Goals as goal
 
 pub returns-in-Err-clause-cause : goal.returns-in-Err-clause-cause
 returns-in-Err-clause-cause c = λ input h. not_run Serial Settled input c.of_run.result (c.of_run.ensures input Settled h (subst (λ (text : List ℕ). IsRunFault text c.in-Err.fault) c.as_slice.ensures.value c.in-Err.ensures.cause))
+
+pub account_of-requires : goal.account_of-requires
+account_of-requires c =
+    let ran = c.in-Ok.watched.ran in
+    let shows = c.in-Ok.ensures.ran.0.shows in
+    record { few = subst (λ (nodes : Nodes). length nodes ≤ NODE_LIMIT) (sym c.nodes.ensures) (few_ran noticing ran.script.commands.items ran.script.lines.items ran.network nothing_noted shows.noted c.in-Ok.ensures.names shows.run) }
 
 pub returns-in-Ok-account_of-clause-answer : goal.returns-in-Ok-account_of-clause-answer
 returns-in-Ok-account_of-clause-answer c = λ input h.
