@@ -5,8 +5,10 @@ pub mod Reading
 pub mod Carried
 pub mod Sets
 pub mod Connections
+pub mod Places
 pub mod LinkReading
 pub mod Shape
+pub mod Tails
 pub mod Marks
 pub mod Sent
 pub mod Lanes

@@ -11,6 +11,8 @@
 //! - A `LinkReader` reads the items of one link. Carried messages are numbered 0, 1, 2, .. on each connection, a batch of
 //!   records is read as its records, and each connection ends once, with its cause. What is read of a connection is what
 //!   was sent on it, each message in its place, up to its end.
+//! - A `Tail` is the sending end of one link. Its lives are 1, 2, .., each opened once and closed at most once, and bytes go
+//!   only on the one that is open.
 #![tactic(auto)]
 
 mod boxed;
@@ -20,8 +22,10 @@ mod fitting;
 mod laws;
 mod link;
 mod message;
+mod places;
 mod reader;
 mod side;
+mod tail;
 
 pub use boxed::BoxedEnvelope;
 pub use carried::Carried;
@@ -37,5 +41,7 @@ pub use laws::{
 };
 pub use link::{Bytes, Cause, Command, Inbound, LinkItem};
 pub use message::{MESSAGE_LIMIT, Message};
+pub use places::{link_of, peer_at};
 pub use reader::LinkReader;
 pub use side::SideMessage;
+pub use tail::{Next, Tail};
