@@ -8,8 +8,8 @@ use crate::event::Reply;
 use crate::queue;
 use crate::stop::Stop;
 use circular_buffer::HeapCircularBuffer;
-use scp_types::{ConnId, Fault, LIFE_LIMIT, NodeId};
-use scp_wire::{Bytes, Inbound, LinkItem, LinkReader};
+use scp_types::{Fault, NodeId};
+use scp_wire::{Bytes, Inbound, LinkItem, LinkReader, Tail};
 use std::alloc::Global;
 use std::marker::Model;
 
@@ -17,15 +17,14 @@ use std::marker::Model;
 /// thing of that; the rest of a batch is still with the reader.
 #[derive(Drop)]
 pub struct Link {
-    life: u32,
-    is_open: bool,
+    tail: Tail,
     queue: HeapCircularBuffer<LinkItem>,
     reader: LinkReader,
     hand: Option<Inbound>,
 }
 
 impl Model for Link {
-    ghost use Rattle.std.specs.Prelude.{◌≤◌, ◌≡◌, [], ◌++◌, None, option_to_list};
+    ghost use Rattle.std.specs.Prelude.{◌≡◌, [], ◌++◌, None, option_to_list};
     ghost use Rattle.std.specs.Coded.{codes};
     ghost use Rattle.scp_xdr.specs.inside.TreeModel.{coded_row};
     ghost use Rattle.scp_quorum.specs.inside.QuorumTree.{coded_level};
@@ -35,9 +34,9 @@ impl Model for Link {
 
     ghost coded = { Prim.hlevel (codes, coded_row coded_level) };
 
-    ghost view = { λ a. record { life = a.life; is_open = a.is_open; queue = a.queue.items; room = a.queue.capacity; reader = a.reader.at; hand = option_to_list a.hand ++ a.reader.rest } };
+    ghost view = { λ a. record { life = a.tail.life; is_open = a.tail.is_open; queue = a.queue.items; room = a.queue.capacity; reader = a.reader.at; hand = option_to_list a.hand ++ a.reader.rest } };
 
-    ghost invariant = { λ a. (a.life ≤ 65535) × (a.hand ≡ None → a.reader.rest ≡ []) };
+    ghost invariant = { λ a. a.hand ≡ None → a.reader.rest ≡ [] };
 }
 
 impl Link {
@@ -46,8 +45,7 @@ impl Link {
         ensures only_memory { IsOkUnless result Fault.NoMemory }
     {
         Ok(Link {
-            life: 0,
-            is_open: false,
+            tail: Tail::new(),
             queue: HeapCircularBuffer::with_capacity(alloc, room)?,
             reader: LinkReader::new(alloc),
             hand: None,
@@ -58,7 +56,7 @@ impl Link {
     pub fn life(&self) -> u32
         ensures { result ≡ self.now.life }
     {
-        self.life
+        self.tail.life()
     }
 
     /// How many items its queue can still take.
@@ -93,57 +91,50 @@ impl Link {
     pub fn accepts(&self) -> bool
         ensures { result ≡ link_accepts self.now }
     {
-        self.is_open && !queue::is_full(&self.queue)
+        self.tail.is_open() && !queue::is_full(&self.queue)
     }
 
     fn open(&mut self, from: NodeId, to: NodeId) -> Reply
         ensures { Opens from to self.old result self.new }
     {
-        if self.is_open {
-            return Reply::AlreadyOpen;
-        }
-        if self.life == LIFE_LIMIT {
-            return Reply::LivesSpent;
-        }
+        let next = match self.tail.opening(from, to) {
+            Ok(next) => next,
+            Err(Fault::AlreadyOpen) => return Reply::AlreadyOpen,
+            Err(_) => return Reply::LivesSpent,
+        };
         if queue::is_full(&self.queue) {
             return Reply::Full;
         }
-        self.life += 1;
-        self.is_open = true;
-        let life = self.life;
-        queue::put(&mut self.queue, LinkItem::Opened(ConnId { from, to, life }));
+        self.tail = next.tail;
+        queue::put(&mut self.queue, next.item);
         Reply::Accepted
     }
 
     fn send(&mut self, from: NodeId, to: NodeId, bytes: Bytes) -> Reply
         ensures { Sends from to bytes self.old result self.new }
     {
-        if !self.is_open {
+        let Ok(next) = self.tail.carrying(from, to, bytes) else {
             return Reply::NotOpen;
-        }
+        };
         if queue::is_full(&self.queue) {
             return Reply::Full;
         }
-        let life = self.life;
-        queue::put(
-            &mut self.queue,
-            LinkItem::Bytes(ConnId { from, to, life }, bytes),
-        );
+        self.tail = next.tail;
+        queue::put(&mut self.queue, next.item);
         Reply::Accepted
     }
 
     fn close(&mut self, from: NodeId, to: NodeId) -> Reply
         ensures { Closes from to self.old result self.new }
     {
-        if !self.is_open {
+        let Ok(next) = self.tail.closing(from, to) else {
             return Reply::NotOpen;
-        }
+        };
         if queue::is_full(&self.queue) {
             return Reply::Full;
         }
-        self.is_open = false;
-        let life = self.life;
-        queue::put(&mut self.queue, LinkItem::Closed(ConnId { from, to, life }));
+        self.tail = next.tail;
+        queue::put(&mut self.queue, next.item);
         Reply::Accepted
     }
 

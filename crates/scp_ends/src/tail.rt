@@ -1,14 +1,15 @@
 //! The sending end of a link.
 ghost use Rattle.std.specs.Prelude.{◌≡◌, ◌↔◌, ◌⊎◌, [], true, false, OnOk, OnErr, IfErr, MatchResult, IsErrOf};
 ghost use Rattle.scp_wire.specs.declared.link.LinkItem.TheVariants as item;
+ghost use Rattle.scp_wire.specs.Tails.{GoesNext};
 ghost use Rattle.scp_ends.specs.Ends.{IsQueued, HeardAll};
 ghost use Rattle.scp_ends.specs.Order.{values};
 ghost use Rattle.scp_ends.specs.Links.{LinkEnd, stands, conn_now, conn_next, with_item, IsLink};
 
 use crate::ends::{Done, Gone, Rx, Tx};
 use crate::rule::Any;
-use scp_types::{ConnId, Fault, LIFE_LIMIT, NodeId};
-use scp_wire::{Bytes, LinkItem};
+use scp_types::{Fault, NodeId};
+use scp_wire::{Bytes, LinkItem, Next, Tail, a_beginning_keeps_the_shape};
 use std::marker::Model;
 use std::sync::Wait;
 
@@ -21,14 +22,23 @@ pub enum NotSent {
     Gone(LinkItem),
 }
 
+impl From<Fault> for NotSent {
+    ghost use Rattle.scp_ends.specs.declared.tail.NotSent.TheVariants.{Refused};
+
+    ghost from_gives = { λ fault e. e ≡ Refused fault };
+
+    fn from(fault: Fault) -> NotSent {
+        NotSent::Refused(fault)
+    }
+}
+
 /// The sending end of the link from one node to another. Each opening of the link is a connection of its own.
 #[derive(Drop)]
 pub struct LinkTx {
     from: NodeId,
     to: NodeId,
     tail: Tx<LinkItem, Any>,
-    life: u32,
-    is_open: bool,
+    at: Tail,
 }
 
 impl Model for LinkTx {
@@ -39,7 +49,7 @@ impl Model for LinkTx {
 
     ghost view = { λ k. record { from = k.from; to = k.to; tail = k.tail } };
 
-    ghost invariant = { λ k. IsLink (record { from = k.from; to = k.to; tail = k.tail }) × (stands (record { from = k.from; to = k.to; tail = k.tail }) ≡ record { life = k.life; is_open = k.is_open }) };
+    ghost invariant = { λ k. IsLink (record { from = k.from; to = k.to; tail = k.tail }) × (stands (record { from = k.from; to = k.to; tail = k.tail }) ≡ k.at) };
 }
 
 /// What the sending end of a link leaves when it has ended.
@@ -69,8 +79,7 @@ impl LinkTx {
             from,
             to,
             tail,
-            life: 0,
-            is_open: false,
+            at: Tail::new(),
         }
     }
 
@@ -78,14 +87,14 @@ impl LinkTx {
     pub fn lives(&self) -> u32
         ensures { result ≡ (stands self.now).life }
     {
-        self.life
+        self.at.life()
     }
 
     /// Whether the link is open.
     pub fn is_open(&self) -> bool
         ensures { result ≡ (stands self.now).is_open }
     {
-        self.is_open
+        self.at.is_open()
     }
 
     /// Opens the link: its next connection begins. Refused by `AlreadyOpen`, and by `LivesSpent` after 65,535 lives.
@@ -96,25 +105,8 @@ impl LinkTx {
         ensures lives_spent { IsErrOf result (NotSent.Refused Fault.LivesSpent) ↔ (((stands self.old).is_open ≡ false) × ((stands self.old).life ≡ 65535)) }
         ensures only { IfErr result (λ e. (e ≡ NotSent.Refused Fault.AlreadyOpen) ⊎ ((e ≡ NotSent.Refused Fault.LivesSpent) ⊎ (e ≡ NotSent.Gone (item.Opened (conn_next self.old))))) }
     {
-        if self.is_open {
-            return Err(NotSent::Refused(Fault::AlreadyOpen));
-        }
-        if self.life >= LIFE_LIMIT {
-            return Err(NotSent::Refused(Fault::LivesSpent));
-        }
-        let conn = ConnId {
-            from: self.from,
-            to: self.to,
-            life: self.life + 1,
-        };
-        match self.tail.send_as(rt, LinkItem::Opened(conn)) {
-            Ok(()) => {
-                self.life += 1;
-                self.is_open = true;
-                Ok(())
-            }
-            Err(Gone(item)) => Err(NotSent::Gone(item)),
-        }
+        let next = self.at.opening(self.from, self.to)?;
+        self.push(rt, next)
     }
 
     /// Sends bytes on the open connection. Refused by `NotOpen`.
@@ -124,14 +116,8 @@ impl LinkTx {
         ensures not_open { IsErrOf result (NotSent.Refused Fault.NotOpen) ↔ ((stands self.old).is_open ≡ false) }
         ensures only { IfErr result (λ e. (e ≡ NotSent.Refused Fault.NotOpen) ⊎ (e ≡ NotSent.Gone (item.Bytes (conn_now self.old) bytes))) }
     {
-        if !self.is_open {
-            return Err(NotSent::Refused(Fault::NotOpen));
-        }
-        let conn = self.conn();
-        match self.tail.send_as(rt, LinkItem::Bytes(conn, bytes)) {
-            Ok(()) => Ok(()),
-            Err(Gone(item)) => Err(NotSent::Gone(item)),
-        }
+        let next = self.at.carrying(self.from, self.to, bytes)?;
+        self.push(rt, next)
     }
 
     /// Closes the open connection. Refused by `NotOpen`.
@@ -141,17 +127,8 @@ impl LinkTx {
         ensures not_open { IsErrOf result (NotSent.Refused Fault.NotOpen) ↔ ((stands self.old).is_open ≡ false) }
         ensures only { IfErr result (λ e. (e ≡ NotSent.Refused Fault.NotOpen) ⊎ (e ≡ NotSent.Gone (item.Closed (conn_now self.old)))) }
     {
-        if !self.is_open {
-            return Err(NotSent::Refused(Fault::NotOpen));
-        }
-        let conn = self.conn();
-        match self.tail.send_as(rt, LinkItem::Closed(conn)) {
-            Ok(()) => {
-                self.is_open = false;
-                Ok(())
-            }
-            Err(Gone(item)) => Err(NotSent::Gone(item)),
-        }
+        let next = self.at.closing(self.from, self.to)?;
+        self.push(rt, next)
     }
 
     /// Wakes the reader if it wasn't woken for all that was sent. To be called before this thread waits for something else.
@@ -165,33 +142,32 @@ impl LinkTx {
     pub fn stop<R: Wait>(self, rt: &R) -> Result<LinkDone, Gone<LinkTx>>
         ensures { MatchResult result (λ d. d ≡ self) (λ e. e.0 ≡ self) }
     {
-        let LinkTx {
-            from,
-            to,
-            tail,
-            life,
-            is_open,
-        } = self;
+        let LinkTx { from, to, tail, at } = self;
         match tail.stop(rt) {
             Ok(tail) => Ok(LinkDone { from, to, tail }),
             Err(unheard) => Err(Gone(LinkTx {
                 from,
                 to,
                 tail: unheard.into_end(),
-                life,
-                is_open,
+                at,
             })),
         }
     }
 
-    /// The connection that is open, or was last open.
-    fn conn(&self) -> ConnId
-        ensures { result ≡ conn_now self.now }
+    /// Sends what goes next.
+    fn push<R: Wait>(&mut self, rt: &R, next: Next) -> Result<(), NotSent>
+        requires next { GoesNext self.old.from self.old.to (stands self.old) next }
+        ensures sent { OnOk result (self.new ≡ with_item self.old next.item) }
+        ensures same { OnErr result (self.new ≡ self.old) }
+        ensures only { IfErr result (λ e. e ≡ NotSent.Gone next.item) }
     {
-        ConnId {
-            from: self.from,
-            to: self.to,
-            life: self.life,
+        a_beginning_keeps_the_shape();
+        match self.tail.send_as(rt, next.item) {
+            Ok(()) => {
+                self.at = next.tail;
+                Ok(())
+            }
+            Err(Gone(item)) => Err(NotSent::Gone(item)),
         }
     }
 }
