@@ -19,7 +19,7 @@ use scp_report::{reports_of, settled_report};
 use scp_script::{Command, capacities_of, count_of_nodes, id_from, peers_of_node, set_of_node};
 use scp_threaded_script::command_of;
 use scp_turn::{
-    Capacities, Config, Event, KvDriver, Network, NoWatch, Node, Peers, Reply, Watch, link_from,
+    Capacities, Config, Event, KvDriver, Network, NoWatch, Node, Peers, Reply, Watch, link_of,
 };
 use scp_types::Fault;
 use std::alloc::{AllocError, Global};
@@ -123,11 +123,11 @@ fn event_of(command: &Command) -> Result<Option<(u8, Event)>, Fault>
     ensures only_memory { IsOkUnless result Fault.NoMemory }
 {
     match command {
-        Command::Open { from, to } => Ok(Some((*to, Event::Open(link_from(*from, *to))))),
-        Command::Close { from, to } => Ok(Some((*to, Event::Close(link_from(*from, *to))))),
+        Command::Open { from, to } => Ok(Some((*to, Event::Open(link_of(*from, *to))))),
+        Command::Close { from, to } => Ok(Some((*to, Event::Close(link_of(*from, *to))))),
         Command::Send { from, to, bytes } => {
             let bytes = bytes.copy()?;
-            Ok(Some((*to, Event::Send(link_from(*from, *to), bytes))))
+            Ok(Some((*to, Event::Send(link_of(*from, *to), bytes))))
         }
         _ => match command_of(command)? {
             Some((node, local)) => Ok(Some((node, Event::Local(local)))),

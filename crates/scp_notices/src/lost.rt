@@ -10,7 +10,7 @@ use crate::notice::Notice;
 use scp_line::Report;
 use scp_script::Command;
 use scp_script_check::is_scripted;
-use scp_turn::link_from;
+use scp_turn::link_of;
 use std::alloc::AllocError;
 
 /// The number of own statements that a node lost for the peer of a link.
@@ -55,7 +55,7 @@ fn lost(reports: &[Report<'_>], from: u8, to: u8) -> u64
     ensures { result ≡ lost_to (map lost_in reports.now) from to }
 {
     match reports.get(usize::from(from - 1)) {
-        Some(report) => lost_over(report, link_from(to, from)),
+        Some(report) => lost_over(report, link_of(to, from)),
         None => 0,
     }
 }

@@ -5,9 +5,9 @@ ghost use Rattle.scp_shared_outbox.specs.Table.{AreAllBack, AllCameOut};
 ghost use Rattle.scp_shared_outbox.specs.inside.Links.{AllEndIn, ArePairs, IsAnyOf, StandLast, TookFrom, TookIn};
 
 use crate::outlets::Outlets;
-use crate::places::peer_at;
 use crate::{Marker, Putter, Taker, take_back};
 use scp_types::Fault;
+use scp_wire::peer_at;
 use std::alloc::{AllocError, Global};
 use std::sync::Wait;
 

@@ -4,7 +4,7 @@ use crate::world::{SimFault, World};
 use scp_core::Event;
 use scp_script::Command;
 use scp_sim_options::parts;
-use scp_turn::link_from;
+use scp_turn::link_of;
 
 impl<'a> World<'a> {
     /// Whether a node is stopped.
@@ -55,9 +55,9 @@ impl<'a> World<'a> {
         link.is_open = is_linked;
         let event = if is_linked {
             link.life = link.life.saturating_add(1);
-            Event::Open(link_from(from, to))
+            Event::Open(link_of(from, to))
         } else {
-            Event::Close(link_from(from, to))
+            Event::Close(link_of(from, to))
         };
         self.links.put(from, to, link);
         self.tell_twins(to, &event)?;

@@ -5,7 +5,7 @@ use crate::due::Due;
 use crate::world::{SimFault, World};
 use scp_core::Event;
 use scp_script::Command;
-use scp_turn::link_from;
+use scp_turn::link_of;
 use scp_wire::Bytes;
 
 impl<'a> World<'a> {
@@ -57,7 +57,7 @@ impl<'a> World<'a> {
         }
         link.is_used = true;
         self.links.put(from, to, link);
-        let event = Event::Send(link_from(from, to), bytes.copy()?);
+        let event = Event::Send(link_of(from, to), bytes.copy()?);
         self.tell_twins(to, &event)?;
         self.act(Command::Send { from, to, bytes })
     }

@@ -7,7 +7,7 @@ use rand_core::Rng;
 use scp_core::{Event, Reply};
 use scp_sim_options::is_marked;
 use scp_text::message_of;
-use scp_turn::link_from;
+use scp_turn::link_of;
 use scp_wire::{Bytes, encode};
 
 impl<'a> World<'a> {
@@ -20,7 +20,7 @@ impl<'a> World<'a> {
             return Ok(());
         };
         let said = match self.network.nodes().get(place) {
-            Some(node) => newest(self.alloc, node, link_from(to, from))?,
+            Some(node) => newest(self.alloc, node, link_of(to, from))?,
             None => return Ok(()),
         };
         for bytes in said {
@@ -74,7 +74,7 @@ impl<'a> World<'a> {
             None => return Ok(()),
         };
         for _ in 0..1_000 {
-            let event = Event::Drain(link_from(to, number));
+            let event = Event::Drain(link_of(to, number));
             let reply = match self.actors.as_mut_slice().get_mut(who) {
                 Some(actor) => match &mut actor.twin {
                     Some(twin) => twin.step(event),

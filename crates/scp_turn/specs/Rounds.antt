@@ -1,8 +1,9 @@
 -- How nodes come to rest: by rounds, in which each node's stages do one step each, and then the next message of each of its outboxes goes out.
-use Rattle.std.specs.Prelude.{ℕ, ◌+◌, ◌-◌, ◌*◌, ◌<◌, ◌≤◌, ◌≡◌, ◌≢◌, ◌⊎◌, Bool, true, false, List, [], ◌∷◌, Option, Some, None, get_or, slice_get, nat_lt, if◌then◌else◌}
+use Rattle.std.specs.Prelude.{ℕ, ◌+◌, ◌-◌, ◌*◌, ◌<◌, ◌≤◌, ◌≡◌, ◌≢◌, ◌⊎◌, Bool, true, false, List, [], ◌∷◌, Option, Some, None, get_or, slice_get}
 use Rattle.std.specs.List.{AllByRecursion}
 use Rattle.scp_types.specs.declared.limits.TheConstants.{NETWORK_LIMIT, ROUND_LIMIT}
 use Rattle.scp_wire.specs.declared.link.Bytes.{Bytes}
+pub use Rattle.scp_wire.specs.Places.{link_of}
 use Rattle.scp_core.specs.declared.event.Event.{Event}
 use Rattle.scp_core.specs.declared.event.Event.TheVariants as event
 use Rattle.scp_core.specs.declared.event.Reply.{Reply}
@@ -15,10 +16,6 @@ use Rattle.scp_turn.specs.Heard.{Nodes, Heard, Then, IsNothing, IsOne, InOrder}
 -- nothing moved, and nothing was sent
 abbrev pub IsStill : List Heard → Type 0
 IsStill heard = AllByRecursion (λ h. IsStillReply h.reply) heard
-
--- the number of a node's link from another, by the numbers of both: a node's peers are the others, ascending
-abbrev pub link_of : ℕ → ℕ → ℕ
-link_of from to = if nat_lt from to then from - 1 else from - 2
 
 -- this event was heard by the node of this number, whatever it replied
 abbrev pub Hears : ℕ → Event → Nodes → List Heard → Nodes → Type 0

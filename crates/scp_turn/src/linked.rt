@@ -1,6 +1,5 @@
 //! What the nodes of a network are linked to.
 ghost use Rattle.std.specs.Prelude.{◌≡◌, ◌<◌, ◌↔◌, ℕ, length, IsTrue};
-ghost use Rattle.scp_turn.specs.Rounds.{link_of};
 ghost use Rattle.scp_turn.specs.Linked.{ids_of, HasOthers, IsNetwork};
 
 use crate::Node;
@@ -8,17 +7,6 @@ use scp_types::{NETWORK_LIMIT, NodeId};
 
 /// The most nodes, as the length of a list.
 pub const SIDE: usize = NETWORK_LIMIT as usize;
-
-/// The number of a node's link from another, by the nodes' numbers from 1 on: the other's place among the node's peers.
-pub fn link_from(from: u8, to: u8) -> u8
-    ensures { result ≡ link_of from to }
-{
-    if from < to {
-        from.saturating_sub(1)
-    } else {
-        from.saturating_sub(2)
-    }
-}
 
 /// Whether these are the ids of the nodes.
 fn are_ids(nodes: &[Node], ids: &[NodeId]) -> bool

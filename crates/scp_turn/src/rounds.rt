@@ -12,18 +12,15 @@ use crate::stepping::{hear, work_at};
 use crate::turns::either;
 use crate::{Event, KvDriver, Node, Reply, Watch};
 use scp_types::{NETWORK_LIMIT, ROUND_LIMIT};
+use scp_wire::link_of;
 
-/// The number of a node's link from another, by the places of both.
+/// The number of a node's link from another, by the places of both from 0 on.
 fn link_at(from: usize, to: usize) -> u8
     requires from { from < NETWORK_LIMIT }
     requires to { to < NETWORK_LIMIT }
     ensures { result ≡ link_of (from + 1) (to + 1) }
 {
-    if from < to {
-        from as u8
-    } else {
-        (from as u8).saturating_sub(1)
-    }
+    link_of(from as u8 + 1, to as u8 + 1)
 }
 
 /// Whether only the caller sends on the link from one node to another, by the places of both.
