@@ -22,6 +22,7 @@ use Rattle.scp_ledger.specs.Decisions.{is_decided}
 use Rattle.scp_ledger.specs.Seen.{LedgerView, machine_at}
 use Rattle.scp_theorem.specs.Grounds.{Who}
 use Rattle.scp_theorem.proofs.Basics.{true_isnt, and_first, and_second, some_same}
+use Rattle.scp_theorem.proofs.Emitted.{statement_is}
 use Rattle.scp_theorem.proofs.Machines.{said, AreMine, IsBehind}
 use Rattle.scp_again.proofs.Lists.{there_decided}
 
@@ -53,11 +54,6 @@ kinds_are s t e = same_kind (is_nomination s.pledges) (is_nomination t.pledges) 
 
 pub alike : (s t : Statement) → s.slot.0 ≡ t.slot.0 → is_nomination s.pledges ≡ is_nomination t.pledges → are_alike s t ≡ true
 alike s t slots kinds = both (nat_eq s.slot.0 t.slot.0) (same_bool (is_nomination s.pledges) (is_nomination t.pledges)) (eq-eqb s.slot.0 t.slot.0 slots) (kinds_same (is_nomination s.pledges) (is_nomination t.pledges) kinds)
-
-pub statement_is : (s t : Statement) → s.node ≡ t.node → s.slot.0 ≡ t.slot.0 → s.pledges ≡ t.pledges → s ≡ t
-statement_is s t n k p =
-    let make : NodeId → ℕ → Pledges → Statement = λ node slot pledges. record { node = node; slot = record { 0 = slot }; pledges = pledges } in
-    ap (λ (x : NodeId). make x s.slot.0 s.pledges) n ∙ ap (λ (x : ℕ). make t.node x s.pledges) k ∙ ap (λ (x : Pledges). make t.node t.slot.0 x) p
 
 newer_is : (s t : Statement) → s.node ≡ t.node → s.slot.0 ≡ t.slot.0 → ArePledgesNewer s.pledges t.pledges → IsNewer s t
 newer_is s t n k p = record { same_node = n; same_slot = ap (λ (x : ℕ). let y : Slot = record { 0 = x } in y) k; newer = p }

@@ -11,7 +11,7 @@ use Rattle.scp_envelope.specs.declared.statement.Pledges.TheVariants.{Prepare, C
 use Rattle.scp_driver.specs.declared.driver.Level.{Level}
 use Rattle.scp_vote.specs.declared.claim.StatementKind.{StatementKind}
 use Rattle.scp_vote.specs.declared.claim.StatementKind.TheVariants.{Nomination as Nominating, Balloting}
-use Rattle.scp_vote.specs.Board.{Seen, kind_of_pledges}
+use Rattle.scp_vote.specs.Board.{Seen}
 use Rattle.scp_vote.specs.Licence.{IsExternalize}
 use Rattle.scp_ballot_rules.specs.declared.state.State.{State}
 use Rattle.scp_ballot_rules.specs.declared.state.Phase.{Phase}
@@ -23,12 +23,12 @@ use Rattle.scp_ballot.specs.Balloting as ballot
 use Rattle.scp_ballot.specs.Balloting.{Ballots, own}
 use Rattle.scp_ballot.specs.Outcome.{IsToEmit, ComesOut}
 use Rattle.scp_slot.specs.declared.output.SlotInput.{SlotInput}
-use Rattle.scp_slot.specs.declared.output.SlotInput.TheVariants.{Propose, Round, Timer, Envelope}
 use Rattle.scp_slot.specs.declared.output.SlotOutput.{SlotOutput}
 use Rattle.scp_slot.specs.declared.output.Verdict.{Verdict}
 use Rattle.scp_slot.specs.Slot.{SlotView}
 use Rattle.scp_slot.specs.Takes as slot
 use Rattle.scp_theorem.proofs.Basics.{some_there, none_some}
+use Rattle.scp_theorem.proofs.Emitted.{whatever_input}
 use Rattle.scp_again.proofs.Current.{IsOpenBallot}
 
 -- the EXTERNALIZE that is emitted
@@ -84,21 +84,8 @@ module _ (old : SlotView) (out : SlotOutput) (new : SlotView) (before : ForSome 
   hears Nominating combined e set h = passes h.nominates.composite h.nominates.passed
   hears Balloting combined e set h = comes _ h.exact.board h.exact.comes
 
-  by_input : (level : List ℕ → Level) (combined : List (List ℕ) → List ℕ) (input : SlotInput) → slot.TakesInput level combined input old out new → Ends out.emitted.ballot
-  by_input level combined (Propose value) t = elim t [ inl r ↦ rests _ r.1 | inr u ↦ elim u.1 [ inl r ↦ rests _ r.1 | inr w ↦ passes w.1.nominates.composite w.1.nominates.passed ] ]
-  by_input level combined Round t = elim t [ inl r ↦ rests _ r.1 | inr w ↦ passes w.1.nominates.composite w.1.nominates.passed ]
-  by_input level combined Timer t = comes _ _ t.exact
-  by_input level combined (Envelope e set) t = elim t [
-    | inl r ↦ rests _ r.1
-    | inr u ↦ elim u.1 [
-      | inl r ↦ rests _ r.1
-      | inr w ↦ elim w.1 [
-        | inl r ↦ rests _ r.1
-        | inr x ↦ elim x.1 [ inl r ↦ rests _ r.1 | inr y ↦ hears (kind_of_pledges e.statement.pledges) combined e set y.1 ]
-      ]
-    ]
-  ]
-
   -- whatever the input is
   pub ends : (level : List ℕ → Level) (combined : List (List ℕ) → List ℕ) (input : SlotInput) → slot.Takes level combined input old out new → Ends out.emitted.ballot
-  ends level combined input t = elim t [ inl r ↦ rests _ r.1 | inr w ↦ by_input level combined input w.1 ]
+  ends level combined input t =
+      whatever_input (Ends out.emitted.ballot) level combined old out new rests (λ (n : slot.Nominates combined old out new). passes n.composite n.passed) (λ (u : slot.Times old out new). comes _ _ u.exact)
+      (λ kind e set h. hears kind combined e set h) input t

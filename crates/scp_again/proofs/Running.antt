@@ -1,13 +1,12 @@
 -- A slot's machine runs: what it leaves, and that what it puts was just said.
 use Rattle.std.proofs.Common.{◌≡◌, ℕ, Bool, true, false, cond, List, refl, sym, ◌∙◌, ap, subst, inl, inr, ◌⊎◌}
-use Rattle.std.specs.Prelude.{Option, Some, None, is_some, IsSomeAnd}
+use Rattle.std.specs.Prelude.{Option, Some, None, is_some}
 use Rattle.std.specs.Option.{ForSome}
 use Rattle.std.specs.BTreeSet as tree_set
 use Rattle.scp_types.specs.declared.names.Hash.{Hash}
 use Rattle.scp_types.specs.declared.names.NodeId.{NodeId}
 use Rattle.scp_types.specs.declared.names.Slot.{Slot}
 use Rattle.scp_quorum.specs.QuorumTree.{QuorumTree}
-use Rattle.scp_quorum.specs.QuorumKind.{set_hash}
 use Rattle.scp_driver.specs.declared.driver.Level.{Level}
 use Rattle.scp_envelope.specs.declared.statement.Envelope.{Envelope as Enveloped}
 use Rattle.scp_envelope.specs.declared.statement.Pledges.{Pledges}
@@ -34,7 +33,7 @@ use Rattle.scp_theorem.specs.Grounds.{Who, IsDecided, IsOwnOf as IsEnvelopeOf}
 use Rattle.scp_theorem.specs.Handed.{handed_by}
 use Rattle.scp_theorem.proofs.Basics.{none_some, some_same, there_some}
 use Rattle.scp_theorem.proofs.Emitted.{IsTold, IsMine, Says, says}
-use Rattle.scp_theorem.proofs.Machines.{said, MayTell, Ran, ran}
+use Rattle.scp_theorem.proofs.Machines.{said, MayTell, Ran, ran, begins_mine, begins_open, machine_was}
 use Rattle.scp_again.proofs.Lists.{any_is_there}
 use Rattle.scp_again.proofs.Current.{true_false, alike, IsOwnOf, IsOwnIf, IsOwnAt, HasDecision, IsOpenBallot, HasKinds, IsWell, AtMachine, IsLast}
 use Rattle.scp_again.proofs.Ending.{ends}
@@ -43,24 +42,14 @@ use Rattle.scp_again.proofs.Put.{IsFresh, ArePut, IsApartFrom, put_emitted}
 
 -- ---- a machine that begins
 
-hash_is : (set : QuorumTree) (h : Hash) → h.0 ≡ set_hash set → h ≡ hash_of set
-hash_is set h e = ap (λ (bytes : List ℕ). let x : Hash = record { 0 = bytes } in x) e
-
 -- how a machine stands before an input
 abbrev IsReady : NodeId → ℕ → Hash → SlotView → Type 0
 IsReady me at hash v = IsMine me at hash v × (ballot.IsDecided v.ballots → ⊥) × HasKinds v
 
 begins : (me : NodeId) (at : ℕ) (set : QuorumTree) (v : SlotView) → Begins me at set v → IsReady me at (hash_of set) v
 begins me at set v b = (
-  record {
-    nomination_me = b.nomination.me;
-    nomination_slot = b.nomination.slot;
-    nomination_hash = hash_is set v.nomination.hash b.nomination.hash;
-    ballots_me = b.ballots.me;
-    ballots_slot = b.ballots.slot;
-    ballots_hash = hash_is set v.ballots.hash b.ballots.hash;
-  },
-  λ h. subst (λ (q : Option Pledges). IsSomeAnd q IsExternalize) (b.ballots.statements v.ballots.board.me) h,
+  begins_mine me at set v b,
+  begins_open me at set v b,
   record {
     nomination = λ p is. none_some (nominate.own v.nomination) p (b.nomination.statements v.nomination.board.me) is;
     ballots = λ p is. none_some v.ballots.emitted p b.ballots.emitted is;
@@ -109,13 +98,6 @@ module _ {D : Type 0} where
 
     pub all_ran : Ran who old r.out new
     all_ran = ran who level extracted combined place old at given fates took new well.me_is well.set_is well.machines r
-
-    there_before : (m : SlotMachine D) → machine_at old.machines at.0 ≡ Some m → r.before ≡ m
-    there_before m e = by_there (machine_at old.machines at.0) e r.machine
-      where
-        by_there : (o : Option (SlotMachine D)) → o ≡ Some m → IsMachineFor old at o r.before → r.before ≡ m
-        by_there None k b = none_some None m refl k
-        by_there (Some x) k b = b ∙ some_same (Some x) x m refl k
 
     -- ---- what becomes of the machine
 
@@ -241,7 +223,7 @@ module _ {D : Type 0} where
         (λ m is w no. made_way s is no b w)
       where
         was_said : (m : AtMachine old s) → s.slot.0 ≡ at.0 → said (is_nomination s.pledges) before ≡ Some s.pledges
-        was_said m is = subst (λ (x : SlotMachine D). said (is_nomination s.pledges) (slot_view x) ≡ Some s.pledges) (sym (there_before m.machine (ap (λ (n : ℕ). machine_at old.machines n) (sym is) ∙ m.there))) m.is
+        was_said m is = subst (λ (x : SlotMachine D). said (is_nomination s.pledges) (slot_view x) ≡ Some s.pledges) (sym (machine_was old at r.before m.machine r.machine (ap (λ (n : ℕ). machine_at old.machines n) (sym is) ∙ m.there))) m.is
 
     pub puts : (link : ℕ) → ArePut who old new (handed_by took.outgoing link)
     puts link = subst (λ (out : List Outgoing). ArePut who old new (handed_by out link)) (sym r.outgoing) (put_emitted who old new r.out.emitted link

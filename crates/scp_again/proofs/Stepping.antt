@@ -30,7 +30,7 @@ use Rattle.scp_apply.specs.Applied.{value_of}
 use Rattle.scp_apply.specs.Applier.{ApplierView, Takes}
 use Rattle.scp_theorem.specs.Grounds.{Who}
 use Rattle.scp_theorem.specs.Handed.{messages_for, handed_by, out_of}
-use Rattle.scp_theorem.proofs.Basics.{there_is, some_same, true_isnt}
+use Rattle.scp_theorem.proofs.Basics.{set_else, set_there, some_same, there_is, true_isnt}
 use Rattle.scp_theorem.proofs.Fit.{AllOut, all_none, all_for}
 use Rattle.scp_core.specs.declared.event.Event.{Event}
 use Rattle.scp_core.specs.declared.event.Event.TheVariants.{Open, Send, Close, Local, ReaderTake, ReaderPut, PendTake, PendPut, SlotTake, SlotPut, ApplyTake, Drain}
@@ -44,18 +44,6 @@ use Rattle.scp_again.proofs.Taking.{IsTaken, taken}
 use Rattle.scp_again.proofs.Holding.{IsPutInto, Holds, holds_put, holds_given, holds_same}
 
 -- ---- the outbox of one link
-
-same_link : (xs : List OutboxView) (l : ℕ) (x y : OutboxView) → slice_get xs l ≡ Some x → slice_get (slice_set xs l y) l ≡ Some y
-same_link [] l x y e = absurd cc
-same_link (z ∷ zs) zero x y e = refl
-same_link (z ∷ zs) (suc l) x y e = same_link zs l x y e
-
-other_link : (xs : List OutboxView) (l m : ℕ) (y : OutboxView) → m ≢ l → slice_get (slice_set xs l y) m ≡ slice_get xs m
-other_link [] l m y ne = refl
-other_link (z ∷ zs) zero zero y ne = absurd (ne refl)
-other_link (z ∷ zs) zero (suc m) y ne = refl
-other_link (z ∷ zs) (suc l) zero y ne = refl
-other_link (z ∷ zs) (suc l) (suc m) y ne = other_link zs l m y (λ e. ne (ap suc e))
 
 puts_both : (old between new : OutboxView) (first more : List Message) → PutsAll old first between → PutsAll between more new → PutsAll old (first ++ more) new
 puts_both old between new [] more p q = subst (λ (o : OutboxView). PutsAll o more new) p q
@@ -199,14 +187,14 @@ module _ {D : Type 0} (says : Says D) (puts : PutsKeepOwes) (gives : GivesKeepOw
       here : l ≡ link → StandsAt new (sent ++ d.message ∷ [])
       here same =
           let was : slice_get old.outboxes link ≡ Some g.before = ap (λ (n : ℕ). slice_get old.outboxes n) (sym same) ∙ g.there in
-          let is : slice_get new.outboxes link ≡ Some g.after' = ap (λ (xs : List OutboxView). slice_get xs link) g.is ∙ ap (λ (n : ℕ). slice_get (slice_set old.outboxes l g.after') n) (sym same) ∙ same_link old.outboxes l g.before g.after' g.there in
+          let is : slice_get new.outboxes link ≡ Some g.after' = ap (λ (xs : List OutboxView). slice_get xs link) g.is ∙ ap (λ (n : ℕ). slice_get (slice_set old.outboxes l g.after') n) (sym same) ∙ set_there old.outboxes l g.before g.after' g.there in
           let started : Holds who picked before old.ledger (Some g.before) sent = subst (λ (o : Option OutboxView). Holds who picked before old.ledger o sent) was h in
           let given : Holds who picked before old.ledger (Some g.after') (sent ++ d.message ∷ []) = holds_given who picked before gives old.ledger g.before g.after' sent d.message g.gives started in
           holds_same who picked before old.ledger new.ledger (Some g.after') (slice_get new.outboxes link) (sent ++ d.message ∷ []) ledger_is is given
 
       elsewhere : l ≢ link → StandsAt new sent
       elsewhere other = holds_same who picked before old.ledger new.ledger (slice_get old.outboxes link) (slice_get new.outboxes link) sent ledger_is
-          (ap (λ (xs : List OutboxView). slice_get xs link) g.is ∙ other_link old.outboxes l link g.after' (λ e. other (sym e))) h
+          (ap (λ (xs : List OutboxView). slice_get xs link) g.is ∙ set_else old.outboxes l link g.after' (λ e. other (sym e))) h
 
       by_link : (b : Bool) → nat_eq l link ≡ b → GoesTo new sent (if b then bytes ∷ [] else [])
       by_link true e = (d.message ∷ [], (d.spells, tt), here (eqb-true l link e))

@@ -5,19 +5,13 @@ use Rattle.scp_driver.specs.Driver.{Says}
 use Rattle.scp_types.specs.declared.names.ConnId.{ConnId}
 use Rattle.scp_types.specs.declared.names.Seq.{Seq}
 use Rattle.scp_types.specs.declared.names.Slot.{Slot}
-use Rattle.scp_quorum.specs.QuorumTree.{QuorumTree}
 use Rattle.scp_quorum.specs.SharedSet.{SharedSet}
 use Rattle.scp_envelope.specs.declared.statement.Statement.{Statement}
-use Rattle.scp_wire.specs.declared.link.Command.{Command}
-use Rattle.scp_wire.specs.declared.link.Command.TheVariants.{Propose, Round, Timer, Tick, Ask}
-use Rattle.scp_wire.specs.declared.message.Message.{Message}
-use Rattle.scp_wire.specs.declared.message.Message.TheVariants.{Envelope, GetSet, Set, NoSet, GetRecord, Record, Records}
+use Rattle.scp_wire.specs.declared.message.Message.TheVariants.{GetRecord}
 use Rattle.scp_outbox.specs.Sent.{statement_of}
 use Rattle.scp_pending.specs.declared.ready.Ready.{Ready}
-use Rattle.scp_pending.specs.declared.ready.Ready.TheVariants as ready
 use Rattle.scp_slot.specs.declared.machine.SlotMachine.{SlotMachine}
 use Rattle.scp_slot.specs.declared.output.SlotInput.{SlotInput}
-use Rattle.scp_slot.specs.declared.output.SlotInput.TheVariants as input
 use Rattle.scp_ledger.specs.declared.journal.Decision.{Decision}
 use Rattle.scp_ledger.specs.declared.journal.Fate.{Fate}
 use Rattle.scp_ledger.specs.declared.journal.Verdict.{Verdict}
@@ -28,13 +22,13 @@ use Rattle.scp_ledger.specs.declared.took.Took.{Took}
 use Rattle.scp_ledger.specs.By.{TakesBy}
 use Rattle.scp_ledger.specs.Decisions.{is_decided, named_by}
 use Rattle.scp_ledger.specs.Seen.{LedgerView, machine_at}
-use Rattle.scp_ledger.specs.Takes.{RunsAt, Passes, Decides, Forwards, Asks, Commands, TakesAsk, TakesCommand, TakesMessage}
+use Rattle.scp_ledger.specs.Takes.{RunsAt, Passes, Decides, Forwards, Asks}
 use Rattle.scp_ledger.specs.Verdicts.{IsRecordVerdict, link_of}
 use Rattle.scp_theorem.specs.Grounds.{Who}
 use Rattle.scp_theorem.specs.Handed.{handed_by}
 use Rattle.scp_theorem.proofs.Basics.{none_some, some_same, which}
 use Rattle.scp_theorem.proofs.Fit.{AllOut, all_none, all_for}
-use Rattle.scp_theorem.proofs.Ledgers.{LedgerStep, ledger_step}
+use Rattle.scp_theorem.proofs.Ledgers.{LedgerStep, ledger_step, whatever_thing}
 use Rattle.scp_again.proofs.Current.{IsOwnIf, HasDecision, IsWell, IsSaid, IsLast}
 use Rattle.scp_again.proofs.AtSlot.{IsOver, IsAtSlot, well_then, said_then, last_then}
 use Rattle.scp_again.proofs.Put.{ArePut, put_quiet}
@@ -147,33 +141,8 @@ module _ {D : Type 0} (says : Says D) where
               (λ s l. last_then who old at.0 new well h s l (λ m is g. none_some None g.machine refl g.now_is) (λ m is w no. named conn seq at value s w));
         }
 
-    commands : (at : Slot) (given : SlotInput) → Commands says.level says.extracted says.combined says.place old at given took new → Result
-    commands at given h = elim h [ inl w ↦ passes _ [] w.2 | inr r ↦ runs at given [] r ]
-
-    takes_ask : (link : ℕ) (at : Slot) → TakesAsk old link at took new → Result
-    takes_ask link at h = elim h.3 [ inl w ↦ passes _ [] w.1 | inr w ↦ asks link at w.1 ]
-
-    takes_command : (command : Command) → TakesCommand says.level says.extracted says.combined says.place old command took new → Result
-    takes_command (Propose at value) h = commands at (input.Propose value) h
-    takes_command (Round at) h = commands at input.Round h
-    takes_command (Timer at) h = commands at input.Timer h
-    takes_command Tick h = passes None [] h
-    takes_command (Ask link at) h = takes_ask link at h
-
-    takes_message : (conn : ConnId) (seq : Seq) (m : Message) (beside : Option QuorumTree) → TakesMessage says.level says.extracted says.combined says.place old conn seq m beside took new → Result
-    takes_message conn seq (Envelope e) beside h = elim h.5 [ inl w ↦ passes _ _ w.1 | inr w ↦ runs e.value.statement.slot _ _ w.2 ]
-    takes_message conn seq (GetSet hash) beside h = absurd h
-    takes_message conn seq (Set inside) beside h = absurd h
-    takes_message conn seq (NoSet hash) beside h = absurd h
-    takes_message conn seq (Records first values) beside h = absurd h
-    takes_message conn seq (GetRecord at) beside h = forwards conn seq at h.0 h.2
-    takes_message conn seq (Record at value) beside h = elim h.2.3 [ inl w ↦ passes _ _ w.1 | inr w ↦ decides conn seq at value h.0 (undecided_by (link_of old.peers conn) at h.2.0 w.0 h.2.1) w.1 ]
-
-  taken_of : (who : Who) (old : LedgerView D) (x : Ready) (took : Took) (new : LedgerView D) → IsWell who old → LedgerStep who old x took new → TakesBy says old x took new → IsTaken who old took.outgoing new
-  taken_of who old (ready.Deliver d) took new well step t = takes_message who old (ready.Deliver d) took new well step d.conn d.seq d.message d.set t
-  taken_of who old (ready.Dropped conn seq cause) took new well step t = passes who old (ready.Dropped conn seq cause) took new well step None _ t
-  taken_of who old (ready.Closed conn cause) took new well step t = passes who old (ready.Closed conn cause) took new well step None _ t
-  taken_of who old (ready.Local command) took new well step t = takes_command who old (ready.Local command) took new well step command t
+    by_step : TakesBy says old x took new → Result
+    by_step t = whatever_thing says Result old x took new passes runs (λ link at is. asks link at) forwards (λ conn seq at value set verdict is right. decides conn seq at value set (undecided_by (link_of old.peers conn) at verdict is right)) t
 
   pub taken : (who : Who) (old : LedgerView D) (x : Ready) (took : Took) (new : LedgerView D) → IsWell who old → TakesBy says old x took new → IsTaken who old took.outgoing new
-  taken who old x took new well t = taken_of who old x took new well (ledger_step says who old x took new well.me_is well.set_is well.machines t) t
+  taken who old x took new well t = by_step who old x took new well (ledger_step says who old x took new well.me_is well.set_is well.machines t) t

@@ -26,6 +26,7 @@ use Rattle.scp_apply.specs.Applies.{Applies, AppliesPass}
 use Rattle.scp_apply.specs.Laws.{NextCanBeTaken}
 use Rattle.scp_ledger.specs.Seen.{LedgerView}
 use Rattle.scp_ledger.specs.By.{TakesBy, RunsBy, JournalsBy}
+use Rattle.scp_theorem.proofs.Basics.{take_front}
 use Rattle.scp_core.specs.Node.{said_in}
 use Rattle.scp_core.specs.inside.Decider.{DeciderView, IsSound}
 use Rattle.scp_core.specs.inside.Stage.{shown, Shows}
@@ -50,10 +51,6 @@ module _ {D : Type 0} (says : Says D) where
   shown_before grown v x t new takes out =
       let g = grown v x t new takes in
       (ap (take (length v.journal)) g.journal ∙ take_front v.journal g.fates, ap (take (length v.decisions)) g.decisions ∙ take_front v.decisions (decisions_on (option_to_list t.onward)), g.asked out)
-    where
-      take_front : {X : Type 0} (xs ys : List X) → take (length xs) (xs ++ ys) ≡ xs
-      take_front [] ys = refl
-      take_front (y ∷ xs) ys = ap (λ zs. y ∷ zs) (take_front xs ys)
 
   pub journals_begin : PassBy → (me : NodeId) (local : QuorumTree) (peers : List NodeId) (v : LedgerView D) → v ≡ nothing_taken me local v.driver peers v.first → IsLedger v → RunsBy says v → JournalsBy says me local peers [] [] v
   journals_begin law = law.begins

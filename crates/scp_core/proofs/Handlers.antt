@@ -25,7 +25,7 @@ use Rattle.scp_apply.specs.Applier.{ApplierView}
 use Rattle.scp_apply.specs.Applier.{Takes as ApplierTakes}
 use Rattle.scp_core.specs.inside.Decider.{DeciderView, Decides, AppliesNext, Applies, Keeps}
 use Rattle.scp_core.specs.inside.Draining.{Draws, IsSpelt, empty_reply}
-use Rattle.scp_theorem.proofs.Basics.{there_is}
+use Rattle.scp_theorem.proofs.Basics.{set_else, set_there, there_is}
 use Rattle.scp_core.proofs.Queues.{within}
 use Rattle.scp_core.specs.inside.Links.{Opens, Sends, Closes, Reads, Gives, OnLinks, Puts}
 
@@ -94,25 +94,13 @@ lives_same (x ∷ xs) zero k k2 there e = ap (λ n. n ∷ map life_of xs) (e ∙
     the_first a b e = cc
 lives_same (x ∷ xs) (suc l) k k2 there e = ap (λ ns. x.life ∷ ns) (lives_same xs l k k2 there e)
 
-there_set : (xs : List LinkView) (l : ℕ) (k k2 : LinkView) → slice_get xs l ≡ Some k → slice_get (slice_set xs l k2) l ≡ Some k2
-there_set [] l k k2 there = absurd cc
-there_set (x ∷ xs) zero k k2 there = refl
-there_set (x ∷ xs) (suc l) k k2 there = there_set xs l k k2 there
-
-others_set : (xs : List LinkView) (l m : ℕ) (k2 : LinkView) → m ≢ l → slice_get (slice_set xs l k2) m ≡ slice_get xs m
-others_set [] l m k2 ne = refl
-others_set (x ∷ xs) zero zero k2 ne = absurd (ne refl)
-others_set (x ∷ xs) zero (suc m) k2 ne = refl
-others_set (x ∷ xs) (suc l) zero k2 ne = refl
-others_set (x ∷ xs) (suc l) (suc m) k2 ne = others_set xs l m k2 (λ e. ne (ap suc e))
-
 module _ {D : Type 0} where
   -- one item fewer waits at the link
   one_more : (v : NodeView D) (l : ℕ) (k k2 : LinkView) (links : List LinkView) → slice_get v.links l ≡ Some k → room_in k2 ≡ room_in k + 1 → links ≡ slice_set v.links l k2 → LeavesRoom v (ReaderTake l) (record v { links = links; failed = true; fault = Some faults.NoMemory })
   one_more v l k k2 links there more is =
-      let now : slice_get links l ≡ Some k2 = ap (λ (xs : List LinkView). slice_get xs l) is ∙ there_set v.links l k k2 there in (
+      let now : slice_get links l ≡ Some k2 = ap (λ (xs : List LinkView). slice_get xs l) is ∙ set_there v.links l k k2 there in (
         ap room_of now ∙ more ∙ sym (ap (λ (o : Option LinkView). room_of o + 1) there),
-        λ other ne. ap (λ (xs : List LinkView). room_of (slice_get xs other)) is ∙ ap room_of (others_set v.links l other k2 ne),
+        λ other ne. ap (λ (xs : List LinkView). room_of (slice_get xs other)) is ∙ ap room_of (set_else v.links l other k2 ne),
       )
 
   -- a reader's take; if memory runs out the node fails

@@ -1,6 +1,7 @@
 -- What holds of a list of exchanges holds of the list with one more.
 use Rattle.std.proofs.Common.{◌≡◌, ℕ, true, false, List, [], ◌∷◌, ◌++◌, refl, sym, ◌∙◌, ap, subst, inl, inr}
 use Rattle.std.specs.Prelude.{fold}
+use Rattle.std.proofs.lemmas.List.Sums.{fold_push}
 use Rattle.scp_driver.specs.Driver.{Says}
 use Rattle.scp_core.specs.declared.config.Config.{Config}
 use Rattle.scp_core.specs.declared.event.Event.{Event}
@@ -71,10 +72,6 @@ module _ {D : Type 0} where
   pub keeps-refl : (v : NodeView D) → Keeps v v
   keeps-refl v = record { config = refl; journal = refl; decisions = refl; asked = refl; command = refl; said = refl; applied = refl; lives = refl }
 
-fold-push : {A B : Type 0} (f : B → A → B) (a : B) (xs : List A) (x : A) → fold f a (xs ++ x ∷ []) ≡ f (fold f a xs) x
-fold-push f a [] x = refl
-fold-push f a (y ∷ ys) x = fold-push f (f a y) ys x
-
 module _ {D : Type 0} (says : Says D) where
   steps-push : (c : Config) (p : Past) (v : NodeView D) (past : List Exchange) (x : Exchange) (old new : NodeView D) → AreSteps says c p v past old → IsReply says c (fold (λ q y. hears c q y.0 y.1) p past) old x.0 x.1 new → AreSteps says c p v (past ++ x ∷ []) new
   steps-push c p v [] x old new a r = (new, subst (λ (w : NodeView D). IsReply says c p w x.0 x.1 new) a r, refl)
@@ -86,7 +83,7 @@ module _ {D : Type 0} (says : Says D) where
       → (moment : NodeView D) → Flows says (hears old.config (past_of old.config past) event reply) moment → (new.failed ≡ false → new ≡ moment) → Keeps moment new
       → LedgerTheorem says (past ++ (event, reply) ∷ []) new
   build past old new event reply same h r failed moment flows now keeps =
-      let more : past_of old.config (past ++ (event, reply) ∷ []) ≡ hears old.config (past_of old.config past) event reply = fold-push (λ q y. hears old.config q y.0 y.1) nothing_heard past (event, reply) in
+      let more : past_of old.config (past ++ (event, reply) ∷ []) ≡ hears old.config (past_of old.config past) event reply = fold_push (λ q y. hears old.config q y.0 y.1) nothing_heard past (event, reply) in
       record {
         driver = h.driver;
         replies = subst (λ (c : Config). AreSteps says c nothing_heard (made h.driver c) (past ++ (event, reply) ∷ []) new) (sym same) (steps-push old.config nothing_heard (made h.driver old.config) past (event, reply) old new h.replies r);

@@ -1,7 +1,8 @@
 -- One event on one link.
 use Rattle.std.proofs.Common.{◌≡◌, ℕ, suc, ◌+◌, ◌-◌, ◌≤◌, List, [], ◌∷◌, ◌++◌, refl, sym, ◌∙◌, ap, arith, length, add-one, length-append, take, drop}
-use Rattle.std.specs.Prelude.{option_to_list, fold}
+use Rattle.std.specs.Prelude.{option_to_list}
 use Rattle.std.proofs.lemmas.List.{take-append-drop, take-append-le, drop-append-le}
+use Rattle.std.proofs.lemmas.List.Sums.{fold_push}
 use Rattle.scp_types.specs.declared.names.NodeId.{NodeId}
 use Rattle.scp_wire.specs.declared.link.LinkItem.{LinkItem}
 use Rattle.scp_wire.specs.declared.link.Inbound.{Inbound}
@@ -12,10 +13,6 @@ use Rattle.scp_core.specs.Node.{LinkView}
 use Rattle.scp_core.specs.Flow.{LinkFlows}
 use Rattle.scp_core.proofs.Below.{ReadLaws}
 use Rattle.scp_core.proofs.Queues.{drop-next}
-
-fold-push : {A B : Type 0} (f : B → A → B) (a : B) (xs : List A) (x : A) → fold f a (xs ++ x ∷ []) ≡ f (fold f a xs) x
-fold-push f a [] x = refl
-fold-push f a (y ∷ ys) x = fold-push f (f a y) ys x
 
 -- an item more at the tail
 abbrev pub more : OnLink → LinkItem → OnLink
@@ -40,7 +37,7 @@ module _ (laws : ReadLaws) where
   link-put me peer room o k x k2 may tail queue room2 reader hand f =
       let same : take o.taken (o.items ++ x ∷ []) ≡ take o.taken o.items = take-append-le o.taken o.items (x ∷ []) f.within in
       record {
-        tail = fold-push goes never_open o.items x ∙ tail;
+        tail = fold_push goes never_open o.items x ∙ tail;
         shape = laws.more peer me never_open o.items x f.shape may;
         room_is = room2 ∙ f.room_is;
         within = omega (arith, f.within, length-append o.items (x ∷ []));

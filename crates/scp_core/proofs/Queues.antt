@@ -1,6 +1,6 @@
 -- Queues, hands and lists of links.
 use Rattle.std.proofs.Common.{◌≡◌, ◌≢◌, ℕ, ◌<◌, ◌≤◌, Bool, true, false, List, [], ◌∷◌, ◌++◌, refl, sym, ◌∙◌, ap, nat_eq, arith, append_assoc, length, zero, suc, take, drop, inl, inr, ◌⊎◌}
-use Rattle.std.specs.Prelude.{Option, Some, None, slice_get, slice_set, option_to_list, if◌then◌else◌}
+use Rattle.std.specs.Prelude.{Option, Some, None, slice_get, slice_set, option_to_list, replicate, if◌then◌else◌}
 use Rattle.std.proofs.lemmas.List.{append-nil}
 use Rattle.std.proofs.lemmas.Bool.{eqb-true, eqb-false}
 use Rattle.std.proofs.lemmas.Option.{slice_get_within}
@@ -34,6 +34,11 @@ get_set (x ∷ xs) zero y zero z e = inl (refl, cc)
 get_set (x ∷ xs) zero y (suc m) z e = inr (λ s. absurd (omega (arith, s)), e)
 get_set (x ∷ xs) (suc l) y zero z e = inr (λ s. absurd (omega (arith, s)), e)
 get_set (x ∷ xs) (suc l) y (suc m) z e = elim (get_set xs l y m z e) [ inl h ↦ inl (ap suc h.0, h.1) | inr h ↦ inr (λ s. h.0 (omega (arith, s)), h.1) ]
+
+pub in_replicate : {X : Type 0} (n : ℕ) (x : X) (l : ℕ) (y : X) → slice_get (replicate n x) l ≡ Some y → y ≡ x
+in_replicate zero x l y e = absurd cc
+in_replicate (suc n) x zero y e = cc
+in_replicate (suc n) x (suc l) y e = in_replicate n x l y e
 
 -- of a link that changed, and of the others
 pub at_changed : (Q : OnLink → Type 0) (links : ℕ → OnLink) (l : ℕ) (o : OnLink) (m : ℕ) → (m ≡ l → Q o) → (m ≢ l → Q (links m)) → Q (changed links l o m)

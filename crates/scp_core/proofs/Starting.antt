@@ -17,16 +17,12 @@ use Rattle.scp_pending.specs.Rules.{Settled}
 use Rattle.scp_core.specs.Theorem.{made, LedgerTheorem}
 use Rattle.scp_core.specs.inside.Starting.{IsNew}
 use Rattle.scp_core.proofs.Deciding.{PassBy, journals_begin}
+use Rattle.scp_core.proofs.Queues.{in_replicate}
 use Rattle.scp_core.proofs.Steps.{same_node-refl}
 
 pub replicate-push : {X : Type 0} (n : ℕ) (x : X) → replicate n x ++ x ∷ [] ≡ replicate (suc n) x
 replicate-push zero x = refl
 replicate-push (suc n) x = ap (λ xs. x ∷ xs) (replicate-push n x)
-
-in_replicate : {X : Type 0} (n : ℕ) (x : X) (l : ℕ) (y : X) → slice_get (replicate n x) l ≡ Some y → y ≡ x
-in_replicate zero x l y e = absurd cc
-in_replicate (suc n) x zero y e = cc
-in_replicate (suc n) x (suc l) y e = in_replicate n x l y e
 
 length-replicate' : {X : Type 0} (n : ℕ) (x : X) → length (replicate n x) ≡ n
 length-replicate' zero x = refl

@@ -43,7 +43,8 @@ use Rattle.scp_gather.specs.Left.{Left, items_of, sent_over}
 use Rattle.scp_gather.specs.Node.{IsLinkAt, IsReadOut, IsNode, EndWell}
 use Rattle.scp_gather.specs.Gathered.{account_gathered, is_command, IsEmptied, AreEmptied, HasItsLine, AreLeftParked, Gathered, WhatEndsWellIsGathered}
 use Rattle.scp_gather.proofs.Hearing.{emptied, no_others, sole_is, Tells, picked, of_each}
-use Rattle.scp_gather.proofs.Lists.{split, within, there_is, same_at, other_at, all_map}
+use Rattle.scp_theorem.proofs.Basics.{there_is}
+use Rattle.scp_gather.proofs.Lists.{split, within, same_at, other_at, all_map}
 use Rattle.scp_gather.proofs.Coming.{from_one, no_command, from_none, told_one, all_in_order, same_place, IsCarriedByLink, carried_by_link, told_by_link}
 use Rattle.scp_gather.proofs.Entries.{same_marks}
 use Rattle.scp_gather.proofs.Parking.{parked_right, parked_of_links}

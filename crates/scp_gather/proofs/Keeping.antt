@@ -16,7 +16,8 @@ use Rattle.scp_gather.specs.Node.{IsNode, IsReadOut, EndWell}
 use Rattle.scp_gather.specs.Report.{AreCame, AreKept, keeps_by}
 use Rattle.scp_gather.specs.inside.Kept.{kept_by}
 use Rattle.scp_gather.proofs.Hearing.{sole_is}
-use Rattle.scp_gather.proofs.Lists.{within, there_is, zip_length}
+use Rattle.scp_theorem.proofs.Basics.{there_is}
+use Rattle.scp_gather.proofs.Lists.{within, zip_length}
 
 -- where each link was paired with a reader, and there are as many of both, so was each reader
 pub all_yielded : {A B : Type 0} (R : A → B → Type 0) (links front tails : List A) (readers yielded rest : List B)

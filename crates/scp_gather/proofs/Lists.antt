@@ -14,11 +14,6 @@ module _ {X : Type 0} where
   pub within : (xs : List X) (l : ℕ) (x : X) → slice_get xs l ≡ Some x → l < length xs
   within xs l x e = slice_get_within xs l x e
 
-  pub there_is : (xs : List X) (l : ℕ) → l < length xs → (x : X) × (slice_get xs l ≡ Some x)
-  there_is [] l lt = absurd (omega (arith, lt))
-  there_is (x ∷ xs) zero lt = (x, refl)
-  there_is (x ∷ xs) (suc l) lt = there_is xs l (omega (arith, lt))
-
   pub same_at : (xs : List X) (n l : ℕ) (x y : X) → slice_get xs n ≡ Some x → slice_get xs l ≡ Some y → n ≡ l → x ≡ y
   same_at xs n l x y a b e = some_is x y (sym a ∙ ap (slice_get xs) e ∙ b)
     where

@@ -17,7 +17,7 @@ use Rattle.scp_turn.specs.scp_core.specs.History.{Exchange}
 use Rattle.scp_turn.specs.Turn.{reader_events, stage_events}
 use Rattle.scp_turn.specs.Heard.{Nodes, Heard, exchange_at, past_at, IsOne, InOrder}
 use Rattle.scp_turn.specs.Rounds.{link_of, drain_of, send_of, HearsAll, Carries, IsTurn, IsRound, IsMovingRound, AreRounds, RestsAs}
-use Rattle.scp_threaded_script.specs.Lines.{command_by, commands_for, link_of as link_to}
+use Rattle.scp_threaded_script.specs.Lines.{command_by, commands_for}
 use Rattle.scp_script.specs.declared.command.Command.{Command}
 use Rattle.scp_script.specs.declared.command.Command.TheVariants as script
 use Rattle.scp_script.specs.Script.{node_count}
@@ -147,7 +147,7 @@ line_given n driven count calm (script.Propose at slot value) a x b p = offered_
 line_given n driven count calm (script.Round at slot) a x b p = offered_given n driven count calm (at, event.Local (local.Round (record { 0 = slot }))) a x b p ∙ told_given (nat_eq at n) (local.Round (record { 0 = slot }))
 line_given n driven count calm (script.Timer at slot) a x b p = offered_given n driven count calm (at, event.Local (local.Timer (record { 0 = slot }))) a x b p ∙ told_given (nat_eq at n) (local.Timer (record { 0 = slot }))
 line_given n driven count calm (script.Tick at) a x b p = offered_given n driven count calm (at, event.Local local.Tick) a x b p ∙ told_given (nat_eq at n) local.Tick
-line_given n driven count calm (script.Ask from to slot) a x b p = offered_given n driven count calm (from, event.Local (local.Ask (link_to to from) (record { 0 = slot }))) a x b p ∙ told_given (nat_eq from n) (local.Ask (link_to to from) (record { 0 = slot }))
+line_given n driven count calm (script.Ask from to slot) a x b p = offered_given n driven count calm (from, event.Local (local.Ask (link_of to from) (record { 0 = slot }))) a x b p ∙ told_given (nat_eq from n) (local.Ask (link_of to from) (record { 0 = slot }))
 line_given n driven count calm script.Settle a x b p = rests_none n driven count calm a x b p
 line_given n driven count calm (script.Wait at things) a x b p = rests_none n driven count calm a x b p
 line_given n driven count calm (script.Report at) a x b p = nothing_none n x p.1.0

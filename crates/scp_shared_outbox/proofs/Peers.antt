@@ -3,7 +3,7 @@ use Rattle.std.proofs.Common.{◌≡◌, ◌≢◌, ◌≤◌, ◌<◌, ◌+◌,
 use Rattle.std.specs.Prelude.{if◌then◌else◌, nat_lt}
 use Rattle.std.proofs.lemmas.Bool.Decides.{nat_tests}
 use Rattle.std.proofs.lemmas.List.{length-append}
-use Rattle.scp_shared_outbox.specs.Places.{Each, link_of, peer_at, IsOneOf}
+use Rattle.scp_shared_outbox.specs.Places.{Each, link_of, peer_at, IsOneOf, AreTwoOf}
 use Rattle.scp_shared_outbox.proofs.Each.{each_nil, each_push, each_front, each_last}
 
 -- how many of the first nodes are peers
@@ -51,7 +51,7 @@ places_of_all count to le one =
 pub place_apart : (to l m : ℕ) → peer_at l to ≡ peer_at m to → l ≡ m
 place_apart to l m e = grind (arith, nat_tests, e)
 
-place_if : (from to : ℕ) (b : Bool) → nat_lt from to ≡ b → link_of from to ≡ (if b then from - 1 else from - 2)
+pub place_if : (from to : ℕ) (b : Bool) → nat_lt from to ≡ b → link_of from to ≡ (if b then from - 1 else from - 2)
 place_if from to b e = ap (λ (c : Bool). if c then from - 1 else from - 2) e
 
 -- at a node's place is that node
@@ -101,6 +101,13 @@ place_among from to index some most one apart = by (nat_lt from to) refl (nat_lt
     by false e false f =
         let le : to ≤ from = grind (arith, nat_tests, e) in
         omega (arith, place_if from to false e, places_if index to false f, le, apart, some, most)
+
+-- so a link between two of all is one of the links of the second
+pub link_within : (count from to : ℕ) → AreTwoOf count from to → link_of from to + 1 < count
+link_within count from to two =
+    let below = place_among from to count two.0.0 two.0.1 two.1.0 two.2 in
+    let all = places_of_all count to two.1.1 two.1.0 in
+    omega (arith, below, all)
 
 -- whichever node is at one of their places is one of them
 pub peer_among : (place to index : ℕ) → place < places_before index to → 1 ≤ peer_at place to × peer_at place to ≤ index

@@ -1,6 +1,6 @@
 -- Lists that grow, and tests.
-use Rattle.std.proofs.Common.{◌≡◌, ℕ, ◌<◌, Bool, true, false, List, [], ◌∷◌, ◌++◌, refl, sym, ◌∙◌, subst, arith, append-nil, length, zero, suc, inl, inr, ◌⊎◌}
-use Rattle.std.specs.Prelude.{Option, Some, None, IsSome, Any, Contains, slice_get, slice_index_or, ◌&&◌}
+use Rattle.std.proofs.Common.{◌≡◌, ◌≢◌, ℕ, ◌<◌, Bool, true, false, List, [], ◌∷◌, ◌++◌, refl, sym, ◌∙◌, ap, subst, arith, append-nil, length, zero, suc, inl, inr, ◌⊎◌, take}
+use Rattle.std.specs.Prelude.{Option, Some, None, IsSome, Any, Contains, slice_get, slice_set, slice_index_or, ◌&&◌}
 use Rattle.std.specs.BTreeMap as tree
 use Rattle.std.specs.Cmp.{unsigned_tied}
 use Rattle.std.specs.Ordering.{nat_cmp}
@@ -78,6 +78,23 @@ pub there_is : {X : Type 0} (xs : List X) (l : ℕ) → l < length xs → (x : X
 there_is [] l lt = absurd (omega (arith, lt))
 there_is (x ∷ xs) zero lt = (x, refl)
 there_is (x ∷ xs) (suc l) lt = there_is xs l (omega (arith, lt))
+
+-- what was written at a place is there, if the place is in the list, and the others are as they were
+pub set_there : {X : Type 0} (xs : List X) (l : ℕ) (x y : X) → slice_get xs l ≡ Some x → slice_get (slice_set xs l y) l ≡ Some y
+set_there [] l x y e = absurd cc
+set_there (z ∷ zs) zero x y e = refl
+set_there (z ∷ zs) (suc l) x y e = set_there zs l x y e
+
+pub set_else : {X : Type 0} (xs : List X) (l m : ℕ) (y : X) → m ≢ l → slice_get (slice_set xs l y) m ≡ slice_get xs m
+set_else [] l m y ne = refl
+set_else (z ∷ zs) zero zero y ne = absurd (ne refl)
+set_else (z ∷ zs) zero (suc m) y ne = refl
+set_else (z ∷ zs) (suc l) zero y ne = refl
+set_else (z ∷ zs) (suc l) (suc m) y ne = set_else zs l m y (λ e. ne (ap suc e))
+
+pub take_front : {X : Type 0} (xs ys : List X) → take (length xs) (xs ++ ys) ≡ xs
+take_front [] ys = refl
+take_front (x ∷ xs) ys = ap (λ zs. x ∷ zs) (take_front xs ys)
 
 -- two keys of a map that are the same
 pub at_is : (a b : ℕ) → tree.is_at (nat_cmp a) b ≡ true → a ≡ b

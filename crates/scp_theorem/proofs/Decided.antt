@@ -15,10 +15,7 @@ use Rattle.scp_apply.specs.scp_ledger.specs.Verdicts.{link_of}
 use Rattle.scp_apply.specs.Applier.{IsLater, next_of}
 use Rattle.scp_theorem.specs.Account.{Account, Ran}
 use Rattle.scp_theorem.specs.Kept.{AreDecided, AreApplied}
-
-take_front : {X : Type 0} (xs ys : List X) → take (length xs) (xs ++ ys) ≡ xs
-take_front [] ys = refl
-take_front (x ∷ xs) ys = ap (λ zs. x ∷ zs) (take_front xs ys)
+use Rattle.scp_theorem.proofs.Basics.{take_front}
 
 isnt_next : (n : ℕ) (d : Decision) → IsLater n d.slot.0 → d.slot.0 ≡ n → ⊥
 isnt_next n d h e = let later = h.later in omega (arith, later, e)

@@ -33,6 +33,30 @@ use Rattle.scp_quorum.specs.SharedSet.{SharedSet}
 use Rattle.scp_slot.specs.Takes as slot
 use Rattle.scp_theorem.proofs.Basics.{some_there, there_some, none_some}
 
+-- ---- one input
+
+-- what holds if the machine rests, nominates, has its timer go off and hears a statement holds whatever the input is
+module _ (P : Type 0) (level : List ℕ → Level) (combined : List (List ℕ) → List ℕ) (old : SlotView) (out : SlotOutput) (new : SlotView)
+    (rests : (verdict : Verdict) → slot.Rests verdict old out new → P) (nominates : slot.Nominates combined old out new → P) (times : slot.Times old out new → P)
+    (hears : (kind : StatementKind) (e : Enveloped) (set : SharedSet) → slot.HearsKind kind combined e set old out new → P) where
+  by_input : (input : SlotInput) → slot.TakesInput level combined input old out new → P
+  by_input (Propose value) t = elim t [ inl r ↦ rests _ r.1 | inr u ↦ elim u.1 [ inl r ↦ rests _ r.1 | inr w ↦ nominates w.1.nominates ] ]
+  by_input Round t = elim t [ inl r ↦ rests _ r.1 | inr w ↦ nominates w.1.nominates ]
+  by_input Timer t = times t
+  by_input (Envelope e set) t = elim t [
+    | inl r ↦ rests _ r.1
+    | inr u ↦ elim u.1 [
+      | inl r ↦ rests _ r.1
+      | inr w ↦ elim w.1 [
+        | inl r ↦ rests _ r.1
+        | inr x ↦ elim x.1 [ inl r ↦ rests _ r.1 | inr y ↦ hears (kind_of_pledges e.statement.pledges) e set y.1 ]
+      ]
+    ]
+  ]
+
+  pub whatever_input : (input : SlotInput) → slot.Takes level combined input old out new → P
+  whatever_input input t = elim t [ inl r ↦ rests _ r.1 | inr w ↦ by_input input w.1 ]
+
 -- ---- one statement
 
 -- what is emitted if `before` was the last and `now` is the last then: an own statement of this kind, newer than the one before
@@ -105,7 +129,7 @@ ballots_tell me at hash old new given m s k a = record {
 
 -- ---- an EXTERNALIZE is emitted with the decision
 
-statement_is : (s t : Statement) → s.node ≡ t.node → s.slot.0 ≡ t.slot.0 → s.pledges ≡ t.pledges → s ≡ t
+pub statement_is : (s t : Statement) → s.node ≡ t.node → s.slot.0 ≡ t.slot.0 → s.pledges ≡ t.pledges → s ≡ t
 statement_is s t n k p =
     let make : NodeId → ℕ → Pledges → Statement = λ node slot pledges. record { node = node; slot = record { 0 = slot }; pledges = pledges } in
     ap (λ (x : NodeId). make x s.slot.0 s.pledges) n ∙ ap (λ (x : ℕ). make t.node x s.pledges) k ∙ ap (λ (x : Pledges). make t.node t.slot.0 x) p
@@ -228,21 +252,6 @@ module _ (me : NodeId) (at : ℕ) (hash : Hash) (old : SlotView) (out : SlotOutp
   hears Nominating combined e set h = nominates combined h.nominates
   hears Balloting combined e set h = record { nomination = nomination_stays h.nomination h.emitted; ballots = ballots_advance h.ballots }
 
-  by_input : (level : List ℕ → Level) (combined : List (List ℕ) → List ℕ) (input : SlotInput) → slot.TakesInput level combined input old out new → Says me at hash old out new
-  by_input level combined (Propose value) t = elim t [ inl r ↦ rests _ r.1 | inr u ↦ elim u.1 [ inl r ↦ rests _ r.1 | inr w ↦ nominates combined w.1.nominates ] ]
-  by_input level combined Round t = elim t [ inl r ↦ rests _ r.1 | inr w ↦ nominates combined w.1.nominates ]
-  by_input level combined Timer t = times t
-  by_input level combined (Envelope e set) t = elim t [
-    | inl r ↦ rests _ r.1
-    | inr u ↦ elim u.1 [
-      | inl r ↦ rests _ r.1
-      | inr w ↦ elim w.1 [
-        | inl r ↦ rests _ r.1
-        | inr x ↦ elim x.1 [ inl r ↦ rests _ r.1 | inr y ↦ hears (kind_of_pledges e.statement.pledges) combined e set y.1 ]
-      ]
-    ]
-  ]
-
   -- whatever the input is
   pub says : (level : List ℕ → Level) (combined : List (List ℕ) → List ℕ) (input : SlotInput) → slot.Takes level combined input old out new → Says me at hash old out new
-  says level combined input t = elim t [ inl r ↦ rests _ r.1 | inr w ↦ by_input level combined input w.1 ]
+  says level combined input t = whatever_input (Says me at hash old out new) level combined old out new rests (nominates combined) times (λ kind e set h. hears kind combined e set h) input t

@@ -26,12 +26,14 @@ use Rattle.scp_ballot.specs.Balloting as ballot
 use Rattle.scp_apply.specs.scp_ledger.specs.declared.journal.Decision.{Decision}
 use Rattle.scp_apply.specs.scp_ledger.specs.declared.journal.Fate.{Fate}
 use Rattle.scp_apply.specs.scp_ledger.specs.declared.journal.Verdict.{Verdict}
+use Rattle.scp_apply.specs.scp_ledger.specs.declared.journal.Verdict.TheVariants.{Decided as Deciding}
 use Rattle.scp_apply.specs.scp_ledger.specs.declared.took.Outgoing.TheVariants.{To}
 use Rattle.scp_apply.specs.scp_ledger.specs.declared.took.Took.{Took}
 use Rattle.scp_apply.specs.scp_ledger.specs.Seen.{LedgerView, machine_at}
 use Rattle.scp_apply.specs.scp_ledger.specs.Decisions.{is_decided, named_by}
 use Rattle.scp_apply.specs.scp_ledger.specs.Takes.{to_peers, decision_of, RunsAt, Passes, Decides, Forwards, TakesMessage, Commands, Asks, TakesAsk, TakesCommand}
 use Rattle.scp_apply.specs.scp_ledger.specs.By.{TakesBy}
+use Rattle.scp_apply.specs.scp_ledger.specs.Verdicts.{IsRecordVerdict, link_of}
 use Rattle.scp_theorem.specs.Grounds.{Who}
 use Rattle.scp_theorem.proofs.Basics.{IsMore, no_more, more_of, none_some, which, at_is}
 use Rattle.scp_theorem.proofs.Emitted.{IsMine}
@@ -51,6 +53,48 @@ module _ {D : Type 0} where
     pub journal : IsMore old.journal new.journal
     pub decisions : IsMore old.decisions new.decisions
     pub outs : Outs who old new x took
+
+-- ---- one thing
+
+-- what holds if the slot stage passes, runs a machine, asks, forwards a request and decides by a record holds whatever it takes
+module _ {D : Type 0} (says : Says D) (P : Type 0) (old : LedgerView D) (x : Ready) (took : Took) (new : LedgerView D)
+    (passes : (verdict : Option Verdict) (fates : List Fate) → Passes old verdict fates took new → P)
+    (runs : (at : Slot) (given : SlotInput) (fates : List Fate) → RunsAt says.level says.extracted says.combined says.place old at given fates took new → P)
+    (asks : (link : ℕ) (at : Slot) → x ≡ ready.Local (Ask link at) → Asks old link at took new → P)
+    (forwards : (conn : ConnId) (seq : Seq) (at : Slot) (set : Option SharedSet) → Forwards old conn seq at set took new → P)
+    (decides : (conn : ConnId) (seq : Seq) (at : Slot) (value : List ℕ) (set : Option SharedSet) (verdict : Verdict) → verdict ≡ Deciding → IsRecordVerdict old (link_of old.peers conn) at verdict → Decides old conn seq at value set took new → P) where
+  commands : (at : Slot) (given : SlotInput) → Commands says.level says.extracted says.combined says.place old at given took new → P
+  commands at given h = elim h [ inl w ↦ passes _ [] w.2 | inr r ↦ runs at given [] r ]
+
+  takes_ask : (link : ℕ) (at : Slot) → x ≡ ready.Local (Ask link at) → TakesAsk old link at took new → P
+  takes_ask link at is h = elim h.3 [ inl w ↦ passes _ [] w.1 | inr w ↦ asks link at is w.1 ]
+
+  takes_command : (command : Command) → x ≡ ready.Local command → TakesCommand says.level says.extracted says.combined says.place old command took new → P
+  takes_command (Propose at value) is h = commands at (input.Propose value) h
+  takes_command (Round at) is h = commands at input.Round h
+  takes_command (Timer at) is h = commands at input.Timer h
+  takes_command Tick is h = passes None [] h
+  takes_command (Ask link at) is h = takes_ask link at is h
+
+  takes_message : (conn : ConnId) (seq : Seq) (m : Message) (beside : Option QuorumTree) → TakesMessage says.level says.extracted says.combined says.place old conn seq m beside took new → P
+  takes_message conn seq (Envelope e) beside h = elim h.5 [ inl w ↦ passes _ _ w.1 | inr w ↦ runs e.value.statement.slot _ _ w.2 ]
+  takes_message conn seq (GetSet hash) beside h = absurd h
+  takes_message conn seq (Set inside) beside h = absurd h
+  takes_message conn seq (NoSet hash) beside h = absurd h
+  takes_message conn seq (Records first values) beside h = absurd h
+  takes_message conn seq (GetRecord at) beside h = forwards conn seq at h.0 h.2
+  takes_message conn seq (Record at value) beside h = elim h.2.3 [ inl w ↦ passes _ _ w.1 | inr w ↦ decides conn seq at value h.0 h.2.0 w.0 h.2.1 w.1 ]
+
+  by_thing : (y : Ready) → x ≡ y → TakesBy says old y took new → P
+  by_thing (ready.Deliver d) is t = takes_message d.conn d.seq d.message d.set t
+  by_thing (ready.Dropped conn seq cause) is t = passes None _ t
+  by_thing (ready.Closed conn cause) is t = passes None _ t
+  by_thing (ready.Local command) is t = takes_command command is t
+
+  pub whatever_thing : TakesBy says old x took new → P
+  whatever_thing t = by_thing x refl t
+
+-- ---- what the slot stage keeps and sends
 
 module _ {D : Type 0} (says : Says D) where
   module _ (who : Who) (old : LedgerView D) (x : Ready) (took : Took) (new : LedgerView D) (me_is : old.me ≡ who.me) (set_is : old.local ≡ who.set) (mine : AreMine who.me (hash_of who.set) old) where
@@ -121,33 +165,5 @@ module _ {D : Type 0} (says : Says D) where
           ]
         ]
 
-    commands : (at : Slot) (given : SlotInput) → Commands says.level says.extracted says.combined says.place old at given took new → LedgerStep who old x took new
-    commands at given h = elim h [ inl w ↦ passes _ [] w.2 | inr r ↦ runs at given [] r ]
-
-    takes_ask : (link : ℕ) (at : Slot) → x ≡ ready.Local (Ask link at) → TakesAsk old link at took new → LedgerStep who old x took new
-    takes_ask link at is h = elim h.3 [ inl w ↦ passes _ [] w.1 | inr w ↦ asks link at is w.1 ]
-
-    takes_command : (command : Command) → x ≡ ready.Local command → TakesCommand says.level says.extracted says.combined says.place old command took new → LedgerStep who old x took new
-    takes_command (Propose at value) is h = commands at (input.Propose value) h
-    takes_command (Round at) is h = commands at input.Round h
-    takes_command (Timer at) is h = commands at input.Timer h
-    takes_command Tick is h = passes None [] h
-    takes_command (Ask link at) is h = takes_ask link at is h
-
-    takes_message : (conn : ConnId) (seq : Seq) (m : Message) (beside : Option QuorumTree) → TakesMessage says.level says.extracted says.combined says.place old conn seq m beside took new → LedgerStep who old x took new
-    takes_message conn seq (Envelope e) beside h = elim h.5 [ inl w ↦ passes _ _ w.1 | inr w ↦ runs e.value.statement.slot _ _ w.2 ]
-    takes_message conn seq (GetSet hash) beside h = absurd h
-    takes_message conn seq (Set inside) beside h = absurd h
-    takes_message conn seq (NoSet hash) beside h = absurd h
-    takes_message conn seq (Records first values) beside h = absurd h
-    takes_message conn seq (GetRecord at) beside h = forwards conn seq at h.0 h.2
-    takes_message conn seq (Record at value) beside h = elim h.2.3 [ inl w ↦ passes _ _ w.1 | inr w ↦ decides conn seq at value h.0 w.1 ]
-
-  ledger_of : (who : Who) (old : LedgerView D) (x : Ready) (took : Took) (new : LedgerView D) → old.me ≡ who.me → old.local ≡ who.set → AreMine who.me (hash_of who.set) old → TakesBy says old x took new → LedgerStep who old x took new
-  ledger_of who old (ready.Deliver d) took new me_is set_is mine t = takes_message who old (ready.Deliver d) took new me_is set_is mine d.conn d.seq d.message d.set t
-  ledger_of who old (ready.Dropped conn seq cause) took new me_is set_is mine t = passes who old (ready.Dropped conn seq cause) took new me_is set_is mine None _ t
-  ledger_of who old (ready.Closed conn cause) took new me_is set_is mine t = passes who old (ready.Closed conn cause) took new me_is set_is mine None _ t
-  ledger_of who old (ready.Local command) took new me_is set_is mine t = takes_command who old (ready.Local command) took new me_is set_is mine command refl t
-
-  pub ledger_step : (who : Who) (old : LedgerView D) (x : Ready) (took : Took) (new : LedgerView D) → old.me ≡ who.me → old.local ≡ who.set → AreMine who.me (hash_of who.set) old → TakesBy says old x took new → LedgerStep who old x took new
-  ledger_step who old x took new me_is set_is mine t = ledger_of who old x took new me_is set_is mine t
+    pub ledger_step : TakesBy says old x took new → LedgerStep who old x took new
+    ledger_step t = whatever_thing says (LedgerStep who old x took new) old x took new passes runs asks forwards (λ conn seq at value set verdict is right d. decides conn seq at value set d) t

@@ -121,7 +121,7 @@ at_itself n = unsigned_tied n n ∙ eq-eqb n n refl
 hash_is : (set : QuorumTree) (h : Hash) → h.0 ≡ set_hash set → h ≡ hash_of set
 hash_is set h e = ap (λ (bytes : List ℕ). let x : Hash = record { 0 = bytes } in x) e
 
-begins_mine : (me : NodeId) (at : ℕ) (set : QuorumTree) (v : SlotView) → Begins me at set v → IsMine me at (hash_of set) v
+pub begins_mine : (me : NodeId) (at : ℕ) (set : QuorumTree) (v : SlotView) → Begins me at set v → IsMine me at (hash_of set) v
 begins_mine me at set v b = record {
   nomination_me = b.nomination.me;
   nomination_slot = b.nomination.slot;
@@ -131,7 +131,7 @@ begins_mine me at set v b = record {
   ballots_hash = hash_is set v.ballots.hash b.ballots.hash;
 }
 
-begins_open : (me : NodeId) (at : ℕ) (set : QuorumTree) (v : SlotView) → Begins me at set v → ballot.IsDecided v.ballots → ⊥
+pub begins_open : (me : NodeId) (at : ℕ) (set : QuorumTree) (v : SlotView) → Begins me at set v → ballot.IsDecided v.ballots → ⊥
 begins_open me at set v b h = subst (λ (q : Option Pledges). IsSomeAnd q IsExternalize) (b.ballots.statements v.ballots.board.me) h
 
 -- a nomination needs no decision
@@ -154,6 +154,14 @@ same_kind false true e = absurd (true_isnt (sym e))
 same_kind false false e = refl
 
 module _ {D : Type 0} where
+  -- if a machine was there, it ran
+  pub machine_was : (old : LedgerView D) (at : Slot) (before m : SlotMachine D) → IsMachineFor old at (machine_at old.machines at.0) before → machine_at old.machines at.0 ≡ Some m → before ≡ m
+  machine_was old at before m ran e = by_there (machine_at old.machines at.0) e ran
+    where
+      by_there : (o : Option (SlotMachine D)) → o ≡ Some m → IsMachineFor old at o before → before ≡ m
+      by_there None k b = none_some None m refl k
+      by_there (Some x) k b = b ∙ some_same (Some x) x m refl k
+
   -- what the ledger tells, and what stays so
   pub record Ran (who : Who) (old : LedgerView D) (out : SlotOutput) (new : LedgerView D) : Type 0 where
     pub machines : AreMine who.me (hash_of who.set) new
@@ -187,11 +195,7 @@ module _ {D : Type 0} where
 
     -- the machine that was there
     there_before : (m : SlotMachine D) → machine_at old.machines at.0 ≡ Some m → r.before ≡ m
-    there_before m e = by_there (machine_at old.machines at.0) e r.machine
-      where
-        by_there : (o : Option (SlotMachine D)) → o ≡ Some m → IsMachineFor old at o r.before → r.before ≡ m
-        by_there None k b = none_some None m refl k
-        by_there (Some x) k b = b ∙ some_same (Some x) x m refl k
+    there_before m e = machine_was old at r.before m r.machine e
 
     -- it hasn't decided, where it gave no decision
     open_then : r.out.decided ≡ None → ballot.IsDecided after'.ballots → ⊥

@@ -36,7 +36,7 @@ use Rattle.scp_threaded_node.specs.declared.ending.TailLeft.{TailLeft}
 use Rattle.scp_threaded_node.specs.Outlets.{IsHandedBack, taker_in, keeps_in}
 use Rattle.scp_threaded_node.specs.inside.Left.{IsLaneOf, AreEndsOf, IsLeft}
 use Rattle.scp_shared_outbox.proofs.Each.{each_front, each_last, each_push}
-use Rattle.scp_threaded_node.proofs.Lists.{push_cases, some_is, there_is}
+use Rattle.scp_shared_outbox.proofs.ListsOfAll.{push_cases, some_is, there_is}
 
 -- ---- a worker's sending end
 

@@ -27,7 +27,7 @@ use Rattle.scp_threaded_node.specs.declared.node.Running.{Running}
 use Rattle.scp_threaded_node.specs.declared.node.Tail.TheVariants.{Host}
 use Rattle.scp_threaded_node.specs.Faults.{driven, LaneEnd, NodeEnd, IsLaneEnd, IsNodeEnd, IsTold, is_unread, tail_fault, links_fault, local_fault, fault_by, fault_of}
 use Rattle.scp_threaded_node.specs.inside.Ending.{HasTailFault, HaveEnded, IsLeftOf}
-use Rattle.scp_threaded_node.proofs.Lists.{push_cases}
+use Rattle.scp_shared_outbox.proofs.ListsOfAll.{push_cases}
 
 -- ---- lists with one more
 

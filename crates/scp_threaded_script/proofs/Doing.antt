@@ -1,7 +1,6 @@
 -- What each kind of line does to nodes that have done the lines before it, whether it went well or not.
-use Rattle.std.proofs.Common.{◌≡◌, ◌∙◌, ℕ, ◌+◌, ◌-◌, ◌≤◌, ◌<◌, Bool, true, false, ap, sym, refl, subst, List, [], ◌∷◌, ◌++◌, length, Result, Ok, Err, Option, Some, arith}
-use Rattle.std.specs.Prelude.{OnOk, OnErr, slice_get, slice_set, nat_lt}
-use Rattle.std.proofs.lemmas.Bool.Decides.{nat_tests}
+use Rattle.std.proofs.Common.{◌≡◌, ◌∙◌, ℕ, ◌+◌, ◌-◌, ◌≤◌, ◌<◌, ap, sym, refl, subst, List, [], ◌∷◌, ◌++◌, length, Result, Ok, Err, Option, Some, arith}
+use Rattle.std.specs.Prelude.{OnOk, OnErr, slice_get, slice_set}
 use Rattle.std.proofs.lemmas.Option.{slice_get_within}
 use Rattle.scp_wire.specs.declared.link.Command.{Command as LocalCommand}
 use Rattle.scp_wire.specs.declared.link.Command.TheVariants as local
@@ -18,7 +17,7 @@ use Rattle.scp_threaded_script.specs.inside.Played.{AllRun, HaveDone, HaveLanes,
 use Rattle.scp_threaded_script.proofs.Acting.{IsLineOn, acts_run, acts_done, unchanged_run}
 use Rattle.scp_shared_outbox.proofs.ListsOfAll.{set_length}
 use Rattle.scp_threaded_node.proofs.Changing.{set_same, each_set}
-use Rattle.scp_threaded_script.proofs.Links.{place_if}
+use Rattle.scp_shared_outbox.proofs.Peers.{link_within}
 use Rattle.scp_threaded_script.proofs.Peers.{peer_count}
 use Rattle.scp_threaded_script.proofs.Telling.{tells_run, tells_done, silent_done}
 
@@ -98,18 +97,7 @@ found_is command found given exact is = subst (IsCommandOf command) (sym exact �
 -- ---- where a link stands among those of a node
 
 pub place_within : (count lanes from to : ℕ) → AreTwoOf count from to → lanes + 1 ≡ count → link_of from to < lanes
-place_within count lanes from to two is = by (nat_lt from to) refl
-  where
-    by : (b : Bool) → nat_lt from to ≡ b → link_of from to < lanes
-    by true e =
-        let lt : from < to = grind (arith, nat_tests, e) in
-        let at = place_if from to true e in
-        omega (arith, lt, at, two.0.0, two.1.1, is)
-    by false e =
-        let le : to ≤ from = grind (arith, nat_tests, e) in
-        let lt : to < from = omega (arith, le, two.2) in
-        let at = place_if from to false e in
-        omega (arith, lt, at, two.0.1, two.1.0, is)
+place_within count lanes from to two is = omega (arith, link_within count from to two, is)
 
 -- ---- one node of all
 

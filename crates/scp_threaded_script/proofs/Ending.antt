@@ -15,7 +15,7 @@ use Rattle.scp_script.specs.Script.{node_count}
 use Rattle.scp_threaded_node.specs.declared.ending.Stood.{Stood}
 use Rattle.scp_threaded_node.specs.Kv.{Node, NodeEnd}
 use Rattle.scp_threaded_node.specs.Faults.{IsNodeEnd, IsTold, fault_of}
-use Rattle.scp_threaded_node.proofs.Lists.{push_cases}
+use Rattle.scp_shared_outbox.proofs.ListsOfAll.{push_cases}
 use Rattle.scp_threaded_script.specs.declared.running.NodeFault.{NodeFault}
 use Rattle.scp_threaded_script.specs.Reported.{AreStood, AllRunSoFar, AreNodeEnds, IsGivenUp, IsLineFault, IsOneOf, IsToldOf, refused_at, first_refused}
 use Rattle.scp_threaded_script.specs.inside.Reported.{AllStand}

@@ -14,7 +14,7 @@ use Rattle.scp_threaded_node.specs.Outlets.{AllKeep, GivenEnds, keeps_from}
 use Rattle.scp_threaded_script.specs.Reported.{AreAllKept}
 use Rattle.scp_threaded_script.specs.inside.Outlets.{IsKeeping, AreKeeping}
 use Rattle.scp_threaded_script.specs.inside.Over.{AreOver}
-use Rattle.scp_threaded_script.proofs.Seating.{there_is}
+use Rattle.scp_shared_outbox.proofs.ListsOfAll.{there_is}
 
 -- what is kept of links that aren't started yet, as the node is given it
 pub lanes_keep : (keeps : Bool) (lanes : List Lane) → AllKeep keeps lanes → AllByRecursion (λ b. b ≡ keeps) (map keeps_from lanes)

@@ -9,11 +9,8 @@ use Rattle.scp_script.specs.Nodes.{id_of, peers_of}
 use Rattle.scp_script.specs.Script.{is_link}
 use Rattle.scp_script.proofs.Peers.{peers_more}
 use Rattle.scp_threaded_script.specs.Lines.{link_of, peer_at}
-use Rattle.scp_shared_outbox.proofs.Peers.{place_of_peer}
+use Rattle.scp_shared_outbox.proofs.Peers.{place_if, place_of_peer}
 use Rattle.scp_threaded_script.proofs.Peers.{peer_count}
-
-pub place_if : (from to : ℕ) (b : Bool) → nat_lt from to ≡ b → link_of from to ≡ (if b then from - 1 else from - 2)
-place_if from to b e = ap (λ (c : Bool). if c then from - 1 else from - 2) e
 
 -- ---- which link it is
 

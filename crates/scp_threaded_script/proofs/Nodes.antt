@@ -16,7 +16,7 @@ use Rattle.scp_threaded_node.specs.Kv.{Node, Over, IsEnded, AreHandedBack}
 use Rattle.scp_threaded_node.specs.declared.ending.Stood.{Stood}
 use Rattle.scp_threaded_node.specs.Outlets.{GivenEnds, given_to}
 use Rattle.scp_threaded_node.specs.Seats.{Runs, AreDriven}
-use Rattle.scp_threaded_node.proofs.Lists.{push_cases}
+use Rattle.scp_shared_outbox.proofs.ListsOfAll.{push_cases}
 use Rattle.scp_threaded_script.specs.Lines.{driven_to, items_to, commands_for}
 use Rattle.scp_threaded_script.specs.inside.Played.{HaveDoneSoFar}
 use Rattle.scp_threaded_script.specs.Reported.{AllRunSoFar}

@@ -9,7 +9,7 @@ use Rattle.scp_types.specs.declared.names.NodeId.{NodeId}
 use Rattle.scp_script.specs.Nodes.{numbers, id_of, peers_of}
 use Rattle.scp_pending.specs.Peers.{AreApart}
 use Rattle.scp_threaded_script.specs.Lines.{peer_at}
-use Rattle.scp_threaded_script.proofs.Seating.{there_is}
+use Rattle.scp_shared_outbox.proofs.ListsOfAll.{there_is}
 use Rattle.scp_shared_outbox.proofs.Peers.{ArePeers, peers_none, peers_more, peers_same, peers_all, place_apart}
 
 -- one more node is one more peer, or the node itself

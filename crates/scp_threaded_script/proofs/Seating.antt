@@ -1,5 +1,5 @@
 -- The ends of outboxes that nodes were given, and hand back.
-use Rattle.std.proofs.Common.{◌≡◌, ◌∙◌, ℕ, zero, suc, ◌+◌, ◌-◌, ◌≤◌, ◌<◌, ap, sym, refl, subst, List, [], ◌∷◌, ◌++◌, length, Option, Some, None, ◌⊎◌, inl, inr, ⊎_elim, arith}
+use Rattle.std.proofs.Common.{◌≡◌, ◌∙◌, ℕ, zero, suc, ◌+◌, ◌-◌, ◌≤◌, ap, sym, refl, subst, List, [], ◌∷◌, ◌++◌, length, Option, Some, None, ◌⊎◌, inl, inr, ⊎_elim, arith}
 use Rattle.std.specs.Prelude.{map, slice_get, option_map}
 use Rattle.std.specs.Global.{Vec}
 use Rattle.std.proofs.lemmas.List.{length-map}
@@ -13,20 +13,10 @@ use Rattle.scp_threaded_node.specs.scp_workers.specs.Working.{AreSameOutlets}
 use Rattle.scp_threaded_node.specs.declared.node.Source.{Source}
 use Rattle.scp_threaded_node.specs.Outlets.{GivenEnds}
 use Rattle.scp_threaded_node.specs.Sources.{AreFresh, IsFresh, taker_from}
-use Rattle.scp_threaded_node.proofs.Lists.{push_cases}
+use Rattle.scp_shared_outbox.proofs.ListsOfAll.{push_cases, some_is, there_is}
 use Rattle.scp_threaded_script.specs.inside.Outlets.{desks_in, AreSameMarkers, AreTakenFrom, IsSeated}
 
 -- ---- lists
-
-module _ {T : Type 0} where
-  some_is : (x y : T) → Some x ≡ Some y → x ≡ y
-  some_is x y e = cc
-
-  -- what stands at a place of a list
-  pub there_is : (xs : List T) (i : ℕ) → i < length xs → (x : T) × (slice_get xs i ≡ Some x)
-  there_is [] i lt = absurd (omega (arith, lt))
-  there_is (x ∷ xs) zero lt = (x, refl)
-  there_is (x ∷ xs) (suc i) lt = there_is xs i (omega (arith, lt))
 
 get_map : {X Y : Type 0} (f : X → Y) (xs : List X) (i : ℕ) → slice_get (map f xs) i ≡ option_map f (slice_get xs i)
 get_map f [] i = refl

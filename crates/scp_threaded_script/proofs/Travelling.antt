@@ -13,7 +13,7 @@ use Rattle.scp_shared_outbox.specs.Ends.{PutterView, MarkerView, TakerView}
 use Rattle.scp_shared_outbox.specs.declared.outlets.Outlets.{Outlets}
 use Rattle.scp_shared_outbox.specs.Places.{Each, link_of, peer_at, AreTwoOf}
 use Rattle.scp_shared_outbox.specs.Table.{at_link, at_place, AreRows, AreAllBack, AllCameOut, AreOutletsOf, ArePuttersOf, PutAt, IsAnyTakerOf, IsTakerOf}
-use Rattle.scp_shared_outbox.proofs.Peers.{peer_of_place, place_among, places_of_all}
+use Rattle.scp_shared_outbox.proofs.Peers.{link_within, peer_of_place}
 use Rattle.scp_theorem.specs.Grounds.{Grounds, IsSentOut}
 use Rattle.scp_theorem.specs.Handed.{handed_by}
 use Rattle.scp_theorem.specs.Laws.{AreHandedOut, HandedOutMayGo}
@@ -42,7 +42,8 @@ use Rattle.scp_threaded_script.specs.inside.Outlets.{AreSameMarkers, IsSeated, A
 use Rattle.scp_threaded_script.specs.inside.Over.{IsOver, AreOver}
 use Rattle.scp_threaded_script.specs.inside.Played.{HaveDone}
 use Rattle.scp_threaded_script.proofs.Peers.{peer_count, peer_is}
-use Rattle.scp_threaded_script.proofs.Seating.{there_is, same_rows, putters_back, taker_back}
+use Rattle.scp_shared_outbox.proofs.ListsOfAll.{there_is}
+use Rattle.scp_threaded_script.proofs.Seating.{same_rows, putters_back, taker_back}
 
 some_is : {T : Type 0} (x y : T) → Some x ≡ Some y → x ≡ y
 some_is x y e = cc
@@ -51,13 +52,6 @@ get_map : {X Y : Type 0} (f : X → Y) (xs : List X) (i : ℕ) (x : X) → slice
 get_map f [] i x h = cc
 get_map f (y ∷ ys) zero x h = ap (λ z. Some (f z)) (some_is y x h)
 get_map f (y ∷ ys) (suc i) x h = get_map f ys i x h
-
--- a link of a node stands among its links
-link_within : (count from to : ℕ) → AreTwoOf count from to → link_of from to + 1 < count
-link_within count from to two =
-    let below = place_among from to count two.0.0 two.0.1 two.1.0 two.2 in
-    let all = places_of_all count to two.1.1 two.1.0 in
-    omega (arith, below, all)
 
 -- a link that the script doesn't drive has a courier, which was given an end of the outbox
 carried_taker : (sent : List LinkItem) (tail : Tail) → IsDriven false sent tail → (t : TakerView) × (taker_of tail ≡ Some t)

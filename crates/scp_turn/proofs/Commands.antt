@@ -35,6 +35,7 @@ use Rattle.scp_core.specs.Flow.{Flows}
 use Rattle.scp_core.specs.Theorem.{LedgerTheorem}
 use Rattle.scp_turn.specs.Commands.{TakenCommand, command_given, given_by, with_fate, command_taken, front_taken, commands_taken, taken_at, taken_by, commands_waiting, AreInTurn}
 use Rattle.scp_turn.specs.inside.InTurn.{NoneAreInTurn, StepsTakeInTurn}
+use Rattle.scp_turn.proofs.Going.{all_on, all_apart}
 
 -- within its length a list has an element
 peer_there : {X : Type 0} (xs : List X) (l : ℕ) → l < length xs → (x : X) × (slice_get xs l ≡ Some x)
@@ -64,14 +65,6 @@ pass_on queue hand leaving inbox hand2 leaving2 inbox2 more empty out came =
     ∙ sym (append_assoc leaving more inbox2)
     ∙ ap (λ (l : List Command). l ++ inbox2) (sym out)
     ∙ append_assoc hand2 leaving2 inbox2)
-
-all_on : {X : Type 0} (P : X → Type 0) (xs ys : List X) → AllByRecursion P xs → AllByRecursion P ys → AllByRecursion P (xs ++ ys)
-all_on P [] ys p q = q
-all_on P (x ∷ xs) ys p q = (p.0, all_on P xs ys p.1 q)
-
-all_apart : {X : Type 0} (P : X → Type 0) (xs ys : List X) → AllByRecursion P (xs ++ ys) → AllByRecursion P xs × AllByRecursion P ys
-all_apart P [] ys p = (tt, p)
-all_apart P (x ∷ xs) ys p = let rest = all_apart P xs ys p.1 in ((p.0, rest.0), rest.1)
 
 -- ---- what comes over a link is no command
 

@@ -23,7 +23,8 @@ use Rattle.scp_turn.specs.declared.sending.Sending.{Sending}
 use Rattle.scp_turn.specs.Episode.{IsSentReply, drains_of, leaving_at, sent_by, sent_in}
 use Rattle.scp_turn.specs.WentOut.{SendingsAreSent, bytes_over}
 use Rattle.scp_turn.specs.inside.Draining.{Drained, GoesDraws, OthersStay, RestStay}
-use Rattle.scp_turn.proofs.GoingOn.{goes_nothing, goes_one, goes_then, all_on, watched_one, watched_on}
+use Rattle.scp_turn.proofs.Going.{goes_nothing, goes_then, all_on, watched_on}
+use Rattle.scp_turn.proofs.GoingOn.{goes_one, watched_one}
 
 -- ---- other links stay
 
@@ -88,14 +89,14 @@ module _ {D : Type 0} (says : Says D) where
       goes_then says a b c (λ o heard n. OnOk done (Drained es before mid heard) × Watched says Note 1 w o heard n v) (λ o heard n. OnOk s (Drained fs mid after' heard) × Watched says Note 1 v o heard n z) (λ o heard n. OnOk s (Drained (es ++ fs) before after' heard) × Watched says Note 1 w o heard n z)
       (λ h k dh dk p q. (
         on_ok_weaker s (λ (d : Drained fs mid after' k). drained_on es fs before mid after' h k p.0 d) q.0,
-        watched_on says Note w v z a b c h k p.1 q.1,
+        watched_on says Note 1 w v z a b c h k p.1 q.1,
       )) f g
 
   -- and then a refusal that is handed on
   pub draws_err : {W : Type 0} (Note : Noting D W) (y : Fault) (r s : Result (Unit {0}) Fault) (w v z : W) (a b c : NodeView D) (P Q R : List Exchange → Type 0) → GoesDraws says Note r w a b P v → GoesDraws says Note s v b c Q z → GoesDraws says {T = Unit {0}} Note (Err y) w a c R z
   draws_err Note y r s w v z a b c P Q R f g =
       goes_then says a b c (λ o heard n. OnOk r (P heard) × Watched says Note 1 w o heard n v) (λ o heard n. OnOk s (Q heard) × Watched says Note 1 v o heard n z) (λ o heard n. OnOk {T = Unit {0}} {E = Fault} (Err y) (R heard) × Watched says Note 1 w o heard n z)
-      (λ h k dh dk p q. (tt, watched_on says Note w v z a b c h k p.1 q.1)) f g
+      (λ h k dh dk p q. (tt, watched_on says Note 1 w v z a b c h k p.1 q.1)) f g
 
   pub draws_as : {W : Type 0} (Note : Noting D W) (r : Result (Unit {0}) Fault) (w z : W) (a b : NodeView D) (es fs : List Event) (before after' : List Sending) → es ≡ fs → GoesDraws says Note r w a b (λ heard. Drained es before after' heard) z → GoesDraws says Note r w a b (λ heard. Drained fs before after' heard) z
   draws_as Note r w z a b es fs before after' is g = subst (λ (l : List Event). GoesDraws says Note r w a b (λ heard. Drained l before after' heard) z) is g

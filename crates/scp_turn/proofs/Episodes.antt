@@ -22,7 +22,8 @@ use Rattle.scp_turn.specs.inside.Cause.{cause_of}
 use Rattle.scp_turn.specs.declared.sending.Sending.{Sending}
 use Rattle.scp_turn.specs.Episode.{IsOfHost, IsEpisode, FollowsOn, drains_of, sent_by, sent_in, is_full_reply, finds_full}
 use Rattle.scp_turn.specs.inside.Draining.{Drained, GoesDraws, GoesFollowed}
-use Rattle.scp_turn.proofs.GoingOn.{Saying, goes_nothing, goes_one, goes_as, goes_then, watched_one, watched_on}
+use Rattle.scp_turn.proofs.Going.{goes_nothing, goes_as, goes_then, watched_on}
+use Rattle.scp_turn.proofs.GoingOn.{Saying, goes_one, watched_one}
 use Rattle.scp_turn.proofs.Causes.{clash, fell, cause_told}
 use Rattle.scp_turn.proofs.Quiet.{RestsWatched, rest_sends_none, host_sends_none}
 
@@ -51,7 +52,7 @@ module _ {D : Type 0} (says : Says D) where
   pub rests_and_drains : {W : Type 0} (Note : Noting D W) (r : Result (Unit {0}) Fault) (calm : Bool) (w v z : W) (a m b : NodeView D) (before after' : List Sending) → RestsWatched says Note (Rests says calm) w a m v → GoesDraws says Note r v m b (λ heard. Drained (drains_of m (links_of m)) before after' heard) z → GoesFollowed says Note r reply.Accepted w a b before after' z
   rests_and_drains Note r calm w v z a m b before after' f g =
       goes_then says a m b (λ o heard n. Rests says calm o heard n × Watched says Note 1 w o heard n v) (λ o heard n. OnOk r (Drained (drains_of m (links_of m)) before after' heard) × Watched says Note 1 v o heard n z) (Follow Note r reply.Accepted w before after' z)
-      (λ x y dx dy p q. (on_ok_weaker r (followed calm a m b x y before after' dy p.0) q.0, watched_on says Note w v z a m b x y p.1 q.1)) f g
+      (λ x y dx dy p q. (on_ok_weaker r (followed calm a m b x y before after' dy p.0) q.0, watched_on says Note 1 w v z a m b x y p.1 q.1)) f g
 
   nothing_follows : (r : Reply) (v : NodeView D) → r ≢ reply.Accepted → FollowsOn says r v [] v
   nothing_follows reply.Accepted v other = absurd (other refl)
@@ -186,7 +187,7 @@ module _ {D : Type 0} (says : Says D) where
   steps_then : {W : Type 0} (Note : Noting D W) (s : Result (Unit {0}) Fault) (t : Result Played Fault) (e : Event) (r : Reply) (w v z : W) (a m b : NodeView D) (before after' : List Sending) → Step says a e r m → ((past : List Exchange) → LedgerTheorem says past a → LedgerTheorem says (past ++ (e, r) ∷ []) m) → Note w 1 e r a m v → ((y : List Exchange) → OnOk s (FollowsOn says r m y b × (after' ≡ before ++ sent_in y)) → IsPlayed t e a ((e, r) ∷ y) b) → GoesFollowed says Note s r v m b before after' z → GoesSteps Note t e w a b z
   steps_then Note s t e r w v z a m b before after' step theorem note all g =
       goes_then says a m b (λ o heard n. (heard ≡ (e, r) ∷ []) × Watched says Note 1 w o heard n v) (Follow Note s r v before after' z) (λ o heard n. IsPlayed t e o heard n × Watched says Note 1 w o heard n z)
-      (λ x y dx dy p q. (subst (λ (l : List Exchange). IsPlayed t e a (l ++ y) b) (sym p.0) (all y q.0), watched_on says Note w v z a m b x y p.1 q.1))
+      (λ x y dx dy p q. (subst (λ (l : List Exchange). IsPlayed t e a (l ++ y) b) (sym p.0) (all y q.0), watched_on says Note 1 w v z a m b x y p.1 q.1))
       (goes_one says a m e r (λ o heard n. (heard ≡ (e, r) ∷ []) × Watched says Note 1 w o heard n v) step theorem (refl, watched_one says Note w v a m e r step note)) g
 
   -- it was refused after the event's step

@@ -1,11 +1,12 @@
 -- A node that heard more, and then more again.
-use Rattle.std.proofs.Common.{◌≡◌, ℕ, Bool, true, false, List, [], ◌∷◌, ◌++◌, refl, sym, ◌∙◌, ap, subst, append_assoc, append-nil}
+use Rattle.std.proofs.Common.{◌≡◌, ◌≢◌, ℕ, Bool, true, false, List, [], ◌∷◌, ◌++◌, refl, sym, ◌∙◌, ap, subst, append_assoc, append-nil}
 use Rattle.std.specs.Prelude.{◌||◌, ◌↔◌}
 use Rattle.std.specs.List.{AllByRecursion}
 use Rattle.std.proofs.lemmas.List.{map-append}
 use Rattle.scp_driver.specs.Driver.{Says}
 use Rattle.scp_core.specs.declared.event.Event.{Event}
 use Rattle.scp_core.specs.declared.event.Reply.{Reply}
+use Rattle.scp_core.specs.declared.event.Reply.TheVariants as reply
 use Rattle.scp_core.specs.History.{Exchange}
 use Rattle.scp_core.specs.Node.{NodeView, Step}
 use Rattle.scp_core.specs.Theorem.{LedgerTheorem}
@@ -20,7 +21,7 @@ module _ {D : Type 0} (says : Says D) where
   does_on a b c [] y p q = subst (λ (v : NodeView D). Does says v y c) p q
   does_on a b c (e ∷ x) y p q = (p.0, p.1, does_on p.0 b c x y p.2 q)
 
-  watched_on : {W : Type 0} (Note : Noting D W) (number : ℕ) (w v z : W) (a b c : NodeView D) (x y : List Exchange) → Watched says Note number w a x b v → Watched says Note number v b y c z → Watched says Note number w a (x ++ y) c z
+  pub watched_on : {W : Type 0} (Note : Noting D W) (number : ℕ) (w v z : W) (a b c : NodeView D) (x y : List Exchange) → Watched says Note number w a x b v → Watched says Note number v b y c z → Watched says Note number w a (x ++ y) c z
   watched_on Note number w v z a b c [] y p q = subst (λ u. Watched says Note number u a y c z) p.1 (subst (λ (n : NodeView D). Watched says Note number v n y c z) p.0 q)
   watched_on Note number w v z a b c (e ∷ x) y p q = (p.0, p.1, p.2, p.3, watched_on Note number p.1 v z p.0 b c x y p.4 q)
 
@@ -58,6 +59,22 @@ or_second false b r e h = sym e ∙ h
 
 or_neither : (a b r : Bool) → r ≡ (a || b) → a ≡ false → b ≡ false → r ≡ false
 or_neither a b r e p q = cc (e, p, q)
+
+-- a reply by which nothing moved, and nothing was sent
+pub still_else : (r : Reply) → r ≢ reply.Moved → ((bytes : List ℕ) → r ≢ reply.Sent bytes) → IsStillReply r
+still_else reply.Accepted m s = tt
+still_else reply.Moved m s = absurd (m refl)
+still_else (reply.Sent bytes) m s = absurd (s bytes refl)
+still_else reply.Idle m s = tt
+still_else reply.Blocked m s = tt
+still_else reply.Full m s = tt
+still_else reply.NotOpen m s = tt
+still_else reply.AlreadyOpen m s = tt
+still_else reply.LivesSpent m s = tt
+still_else reply.NoLink m s = tt
+still_else reply.Failed m s = tt
+still_else reply.JournalFull m s = tt
+still_else reply.NoMemory m s = tt
 
 -- one of both moved something exactly where both together did
 pub moved_or : {X : Type 0} (P : X → Type 0) (xs ys : List X) (a b r : Bool) → r ≡ (a || b) → ((a ≡ false) ↔ AllByRecursion P xs) → ((b ≡ false) ↔ AllByRecursion P ys) → (r ≡ false) ↔ AllByRecursion P (xs ++ ys)

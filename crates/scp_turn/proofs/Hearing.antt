@@ -1,13 +1,13 @@
 -- Nodes that heard more, and then more again.
 use Rattle.std.proofs.Common.{◌≡◌, ◌+◌, ℕ, suc, Bool, true, false, List, [], ◌∷◌, ◌++◌, length, refl, sym, ◌∙◌, ap, subst, append_assoc, append-nil, arith}
 use Rattle.std.specs.Prelude.{◌||◌, ◌↔◌}
-use Rattle.std.specs.List.{AllByRecursion}
 use Rattle.scp_turn.specs.Kv.{Noting}
 use Rattle.scp_turn.specs.Turn.{IsStillReply}
 use Rattle.scp_turn.specs.Heard.{Nodes, Heard, HaveHeard, Then, InOrder, Noted, With}
 use Rattle.scp_turn.specs.Rounds.{IsStill}
 use Rattle.scp_turn.specs.Network.{Hear}
 use Rattle.scp_turn.specs.inside.Carrying.{Acts}
+use Rattle.scp_turn.proofs.Going as going
 
 -- ---- nothing, and one after the other
 
@@ -27,32 +27,9 @@ hear_then a b c P Q R both f s = record {
 
 -- ---- what moves nothing
 
-all_on : {X : Type 0} (P : X → Type 0) (xs ys : List X) → AllByRecursion P xs → AllByRecursion P ys → AllByRecursion P (xs ++ ys)
-all_on P [] ys p q = q
-all_on P (x ∷ xs) ys p q = (p.0, all_on P xs ys p.1 q)
-
-all_apart : {X : Type 0} (P : X → Type 0) (xs ys : List X) → AllByRecursion P (xs ++ ys) → AllByRecursion P xs × AllByRecursion P ys
-all_apart P [] ys p = (tt, p)
-all_apart P (x ∷ xs) ys p = let rest = all_apart P xs ys p.1 in ((p.0, rest.0), rest.1)
-
-or_first : (a b r : Bool) → r ≡ (a || b) → r ≡ false → a ≡ false
-or_first true b r e h = sym e ∙ h
-or_first false b r e h = refl
-
-or_second : (a b r : Bool) → r ≡ (a || b) → r ≡ false → b ≡ false
-or_second true b r e h = absurd cc
-or_second false b r e h = sym e ∙ h
-
-or_neither : (a b r : Bool) → r ≡ (a || b) → a ≡ false → b ≡ false → r ≡ false
-or_neither a b r e p q = cc (e, p, q)
-
 -- one of both moved something exactly where both together did
 pub moved_or : (x y : List Heard) (a b r : Bool) → r ≡ (a || b) → ((a ≡ false) ↔ IsStill x) → ((b ≡ false) ↔ IsStill y) → (r ≡ false) ↔ IsStill (x ++ y)
-moved_or x y a b r is p q =
-    let P = λ (h : Heard). IsStillReply h.reply in (
-      λ e. all_on P x y (p.0 (or_first a b r is e)) (q.0 (or_second a b r is e)),
-      λ all. let parts = all_apart P x y all in or_neither a b r is (p.1 parts.0) (q.1 parts.1),
-    )
+moved_or x y a b r is p q = going.moved_or (λ (h : Heard). IsStillReply h.reply) x y a b r is p q
 
 -- ---- what was noted
 

@@ -11,7 +11,7 @@ use Rattle.scp_core.specs.Theorem.{LedgerTheorem}
 use Rattle.scp_turn.specs.Watch.{Noting}
 use Rattle.scp_turn.specs.Turn.{IsStillReply}
 use Rattle.scp_turn.specs.inside.Acting.{Acts, IsStage}
-use Rattle.scp_turn.proofs.Going.{acts_one}
+use Rattle.scp_turn.proofs.Going.{acts_one, still_else}
 
 module _ {D : Type 0} where
   -- a stage sends nothing out
@@ -28,21 +28,6 @@ module _ {D : Type 0} where
   sends_nothing v new event.SlotPut bytes s p = p
   sends_nothing v new event.ApplyTake bytes s p = p
   sends_nothing v new (event.Drain l) bytes s p = s
-
-still_else : (r : Reply) → r ≢ reply.Moved → ((bytes : List ℕ) → r ≢ reply.Sent bytes) → IsStillReply r
-still_else reply.Accepted m s = tt
-still_else reply.Moved m s = absurd (m refl)
-still_else (reply.Sent bytes) m s = absurd (s bytes refl)
-still_else reply.Idle m s = tt
-still_else reply.Blocked m s = tt
-still_else reply.Full m s = tt
-still_else reply.NotOpen m s = tt
-still_else reply.AlreadyOpen m s = tt
-still_else reply.LivesSpent m s = tt
-still_else reply.NoLink m s = tt
-still_else reply.Failed m s = tt
-still_else reply.JournalFull m s = tt
-still_else reply.NoMemory m s = tt
 
 module _ {D : Type 0} (says : Says D) where
   -- a step of a stage that doesn't move

@@ -16,7 +16,8 @@ use Rattle.scp_turn.specs.Turn.{Goes, events_of, reader_events, stage_events, li
 use Rattle.scp_turn.specs.Rest.{AreMovingTurns, Rests}
 use Rattle.scp_turn.specs.declared.sending.Sending.{Sending}
 use Rattle.scp_turn.specs.Episode.{IsOfHost, sent_by, sent_in}
-use Rattle.scp_turn.proofs.GoingOn.{Saying, goes_nothing, goes_then, all_on, watched_on}
+use Rattle.scp_turn.proofs.Going.{goes_nothing, goes_then, all_on, watched_on}
+use Rattle.scp_turn.proofs.GoingOn.{Saying}
 
 -- no drain
 abbrev pub IsNoDrain : Event → Type 0
@@ -106,12 +107,12 @@ module _ {D : Type 0} (says : Says D) where
       let e : k + 1 ≡ suc k = omega arith in
       subst (λ (j : ℕ). RestsWatched says Note (AreMovingTurns says j) w a c z) (sym e)
       (goes_then says a b c (λ o heard n. AreMovingTurns says k o heard n × Watched says Note 1 w o heard n v) (λ o heard n. IsTurn o heard n × Watched says Note 1 v o heard n z × ((moved ≡ false) ↔ IsStill heard)) (λ o heard n. AreMovingTurns says (suc k) o heard n × Watched says Note 1 w o heard n z)
-      (λ x y done next p q. (record { mid = b; first = x; rest = y; split = refl; one = p.0; two = (next, q.0, moving moved y is q.2) }, watched_on says Note w v z a b c x y p.1 q.1)) g t)
+      (λ x y done next p q. (record { mid = b; first = x; rest = y; split = refl; one = p.0; two = (next, q.0, moving moved y is q.2) }, watched_on says Note 1 w v z a b c x y p.1 q.1)) g t)
 
   pub comes_to_rest : {W : Type 0} (Note : Noting D W) (w v z : W) (a b c : NodeView D) (k : ℕ) (moved : Bool) → k < ROUND_LIMIT → moved ≡ false → RestsWatched says Note (AreMovingTurns says k) w a b v → Turns says Note v moved b c z → RestsWatched says Note (Rests says true) w a c z
   comes_to_rest Note w v z a b c k moved lt is g t =
       goes_then says a b c (λ o heard n. AreMovingTurns says k o heard n × Watched says Note 1 w o heard n v) (λ o heard n. IsTurn o heard n × Watched says Note 1 v o heard n z × ((moved ≡ false) ↔ IsStill heard)) (λ o heard n. Rests says true o heard n × Watched says Note 1 w o heard n z)
-      (λ x y done next p q. ((k, lt, record { mid = b; first = x; rest = y; split = refl; one = p.0; two = (next, q.0, q.2.0 is) }), watched_on says Note w v z a b c x y p.1 q.1)) g t
+      (λ x y done next p q. ((k, lt, record { mid = b; first = x; rest = y; split = refl; one = p.0; two = (next, q.0, q.2.0 is) }), watched_on says Note 1 w v z a b c x y p.1 q.1)) g t
 
   pub goes_on : {W : Type 0} (Note : Noting D W) (w z : W) (a b : NodeView D) (k : ℕ) → k ≡ ROUND_LIMIT → RestsWatched says Note (AreMovingTurns says k) w a b z → RestsWatched says Note (Rests says false) w a b z
   goes_on Note w z a b k is g = subst (λ (j : ℕ). RestsWatched says Note (AreMovingTurns says j) w a b z) is g

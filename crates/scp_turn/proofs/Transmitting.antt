@@ -10,21 +10,7 @@ use Rattle.scp_core.specs.declared.event.Reply.TheVariants as reply
 use Rattle.scp_core.specs.Node.{LinkView, accepts_at, accepts_of}
 use Rattle.scp_core.specs.Kv.{NodeView, Step}
 use Rattle.scp_turn.specs.Turn.{IsStillReply}
-
-still_else : (r : Reply) → r ≢ reply.Moved → ((bytes : Bytes) → r ≢ reply.Sent bytes) → IsStillReply r
-still_else reply.Accepted m s = tt
-still_else reply.Moved m s = absurd (m refl)
-still_else (reply.Sent bytes) m s = absurd (s bytes refl)
-still_else reply.Idle m s = tt
-still_else reply.Blocked m s = tt
-still_else reply.Full m s = tt
-still_else reply.NotOpen m s = tt
-still_else reply.AlreadyOpen m s = tt
-still_else reply.LivesSpent m s = tt
-still_else reply.NoLink m s = tt
-still_else reply.Failed m s = tt
-still_else reply.JournalFull m s = tt
-still_else reply.NoMemory m s = tt
+use Rattle.scp_turn.proofs.Going.{still_else}
 
 -- a drain that doesn't send
 pub drain_still : (v new : NodeView) (l : ℕ) (r : Reply) → Step v (event.Drain l) r new → ((bytes : Bytes) → r ≢ reply.Sent bytes) → IsStillReply r

@@ -16,12 +16,12 @@ use Rattle.scp_ledger.specs.declared.took.Outgoing.{Outgoing}
 use Rattle.scp_ledger.specs.Seen.{LedgerView}
 use Rattle.scp_theorem.specs.Grounds.{Grounds, MaySend, IsSentOut}
 use Rattle.scp_theorem.specs.Handed.{messages_for, handed_by}
-use Rattle.scp_theorem.proofs.Basics.{there_is, none_some, some_same}
+use Rattle.scp_theorem.proofs.Basics.{set_else, set_there, there_is, none_some, some_same}
 use Rattle.scp_theorem.proofs.Fit.{NewerOut, handed_append, handed_push, AreFit}
 use Rattle.scp_theorem.proofs.Machines.{AreMine}
 use Rattle.scp_theorem.proofs.Telling.{none_newer}
 use Rattle.scp_core.specs.Node.{HandsOne, HandsEach}
-use Rattle.scp_core.proofs.Queues.{get_set, within}
+use Rattle.scp_core.proofs.Queues.{get_set, in_replicate, within}
 
 -- of each link: what was sent and waits was handed out
 pub record Boxes (sent : ℕ → List (List ℕ)) (boxes : List OutboxView) (handed : List Outgoing) : Type 0 where
@@ -39,14 +39,9 @@ module _ {D : Type 0} where
 -- ---- at first, and with nothing more sent
 
 -- each of this many is the same
-get_replicate : {X : Type 0} (n : ℕ) (x : X) (l : ℕ) (y : X) → slice_get (replicate n x) l ≡ Some y → y ≡ x
-get_replicate zero x l y e = absurd cc
-get_replicate (suc n) x zero y e = cc
-get_replicate (suc n) x (suc l) y e = get_replicate n x l y e
-
 pub first_boxes : EmptySends → (n : ℕ) → Boxes (λ link. []) (replicate n empty_outbox) []
 first_boxes empty n = record {
-  sends = λ link o there. subst (λ (b : OutboxView). Sends [] [] b) (sym (get_replicate n empty_outbox link o there)) empty;
+  sends = λ link o there. subst (λ (b : OutboxView). Sends [] [] b) (sym (in_replicate n empty_outbox link o there)) empty;
   none = λ link there. refl;
 }
 
@@ -118,18 +113,6 @@ puts_each puts sent old handed (one ∷ more) new b out newer =
     subst (λ (h : List Outgoing). Boxes sent new h) whole (puts_each puts sent out.0 (handed ++ one ∷ []) more new (puts_one puts sent old handed one out.0 b out.1 front) out.2 all)
 
 -- ---- one link's outbox gives what is next
-
-set_there : (xs : List OutboxView) (l : ℕ) (x y : OutboxView) → slice_get xs l ≡ Some x → slice_get (slice_set xs l y) l ≡ Some y
-set_there [] l x y e = absurd cc
-set_there (z ∷ zs) zero x y e = refl
-set_there (z ∷ zs) (suc l) x y e = set_there zs l x y e
-
-set_else : (xs : List OutboxView) (l m : ℕ) (y : OutboxView) → m ≢ l → slice_get (slice_set xs l y) m ≡ slice_get xs m
-set_else [] l m y ne = refl
-set_else (z ∷ zs) zero zero y ne = absurd (ne refl)
-set_else (z ∷ zs) zero (suc m) y ne = refl
-set_else (z ∷ zs) (suc l) zero y ne = refl
-set_else (z ∷ zs) (suc l) (suc m) y ne = set_else zs l m y (λ e. ne (ap suc e))
 
 pub gives_one : GivesKeepSends → (sent same : ℕ → List (List ℕ)) (old : List OutboxView) (handed : List Outgoing) (link : ℕ) (message : Message) (bytes : List ℕ) (new : List OutboxView) → Boxes sent old handed → GivesThere old link (Some message) new → SpellsMessage bytes (message_value message)
     → (same link ≡ sent link ++ bytes ∷ []) → ((m : ℕ) → m ≢ link → same m ≡ sent m) → Boxes same new handed

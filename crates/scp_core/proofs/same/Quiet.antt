@@ -15,6 +15,7 @@ use Rattle.scp_pending.specs.declared.ready.Ready.{Ready}
 use Rattle.scp_ledger.specs.Seen.{LedgerView}
 use Rattle.scp_ledger.specs.declared.took.Onward.{Onward}
 use Rattle.scp_apply.specs.Applier.{ApplierView}
+use Rattle.scp_theorem.proofs.Basics.{some_there}
 use Rattle.scp_core.specs.History.{peer_at}
 use Rattle.scp_core.specs.Node.{LinkView, NodeView, with_link, HasLink, Step}
 use Rattle.scp_core.specs.declared.event.Event.TheVariants.{Open, Send, Close, Local, ReaderTake, ReaderPut, PendPut, SlotPut}
@@ -48,10 +49,6 @@ module _ {D : Type 0} where
 
 clash : (b : Bool) → b ≡ false → b ≡ true → ⊥
 clash b f t = cc
-
-pub is_there : {X : Type 0} (o : Option X) → IsSome o → (x : X) × (o ≡ Some x)
-is_there None h = absurd cc
-is_there (Some x) h = (x, refl)
 
 -- ---- the tail of a link
 
@@ -308,7 +305,7 @@ module _ {D : Type 0} (says : Says D) where
   ready_is : (v new : NodeView D) (reply : Reply) → v.failed ≡ false → Step says v PendPut reply new → comes reply new ≡ ready_at v
   ready_is v new Failed runs h = absurd (clash v.failed runs h.0)
   ready_is v new Idle runs h = stays Idle new v h.2 ∙ ready_tests v None _ h.1 refl
-  ready_is v new Blocked runs h = let some = is_there v.pend_hand h.1.0 in stays Blocked new v h.2 ∙ ready_tests v (Some some.0) true some.1 (eq-eqb (length v.ready) v.ready_room h.1.1)
+  ready_is v new Blocked runs h = let some = some_there v.pend_hand h.1.0 in stays Blocked new v h.2 ∙ ready_tests v (Some some.0) true some.1 (eq-eqb (length v.ready) v.ready_room h.1.1)
   ready_is v new Moved runs h = stays Moved new _ h.1.3 ∙ ready_tests v (Some h.1.1) false h.1.2 (ne_eqb (length v.ready) v.ready_room h.1.0)
   ready_is v new reply runs h = absurd h.1
 
@@ -333,7 +330,7 @@ module _ {D : Type 0} (says : Says D) where
   decided_is : (v new : NodeView D) (reply : Reply) → v.failed ≡ false → Step says v SlotPut reply new → comes reply new ≡ decided_at v
   decided_is v new Failed runs h = absurd (clash v.failed runs h.0)
   decided_is v new Idle runs h = stays Idle new v h.2 ∙ decided_tests v None _ h.1 refl
-  decided_is v new Blocked runs h = let some = is_there v.slot_hand h.1.0 in stays Blocked new v h.2 ∙ decided_tests v (Some some.0) true some.1 (eq-eqb (length v.decided) v.decided_room h.1.1)
+  decided_is v new Blocked runs h = let some = some_there v.slot_hand h.1.0 in stays Blocked new v h.2 ∙ decided_tests v (Some some.0) true some.1 (eq-eqb (length v.decided) v.decided_room h.1.1)
   decided_is v new Moved runs h = stays Moved new _ h.1.3 ∙ decided_tests v (Some h.1.1) false h.1.2 (ne_eqb (length v.decided) v.decided_room h.1.0)
   decided_is v new reply runs h = absurd h.1
 

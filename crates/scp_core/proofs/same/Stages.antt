@@ -27,7 +27,8 @@ use Rattle.scp_core.specs.declared.event.Reply.{Reply}
 use Rattle.scp_core.specs.declared.event.Reply.TheVariants.{Failed, NoLink, Blocked, Idle, Moved, Sent, NoMemory}
 use Rattle.scp_core.proofs.same.Ones.{none_some}
 use Rattle.scp_core.proofs.same.Outboxes.{hands_one, gives_one, gives_apart}
-use Rattle.scp_core.proofs.same.Quiet.{with_stages, QuietStep, is_there}
+use Rattle.scp_core.proofs.same.Quiet.{with_stages, QuietStep}
+use Rattle.scp_theorem.proofs.Basics.{some_there}
 
 clash : (b : Bool) → b ≡ false → b ≡ true → ⊥
 clash b f t = cc
@@ -43,7 +44,7 @@ tails x y xs ys e = cc
 
 -- a Some isn't None, of one option
 pub apart : {X : Type 0} (o : Option X) → IsSome o → o ≡ None → ⊥
-apart o some none = let x = is_there o some in none_some x.0 (sym none ∙ x.1)
+apart o some none = let x = some_there o some in none_some x.0 (sym none ∙ x.1)
 
 pub each_one : (old : List OutboxView) (out : List Outgoing) (a b : List OutboxView) → HandsEach old out a → HandsEach old out b → a ≡ b
 each_one old [] a b x y = x ∙ sym y

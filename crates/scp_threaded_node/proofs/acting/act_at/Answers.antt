@@ -7,7 +7,7 @@ use Rattle.scp_threaded_node.specs.Acting.{acted, CanAct, IsActFault}
 use Rattle.scp_threaded_node.proofs.Changing.{set_same}
 use Rattle.scp_threaded_node.specs.Outlets.{taker_in, keeps_in}
 use Rattle.scp_threaded_node.proofs.Given.{map_set, lanes_given, acted_in, acted_keeps}
-use Rattle.scp_threaded_node.proofs.Lists.{some_is}
+use Rattle.scp_shared_outbox.proofs.ListsOfAll.{some_is}
 use Rattle.scp_threaded_node.proofs.Staying.{acts_runs, unchanged_runs}
 use Rattle.scp_threaded_node.proofs.acting.act_at.Goals as goal
 
