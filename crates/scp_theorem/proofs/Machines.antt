@@ -156,7 +156,7 @@ same_kind false false e = refl
 module _ {D : Type 0} where
   -- if a machine was there, it ran
   pub machine_was : (old : LedgerView D) (at : Slot) (before m : SlotMachine D) → IsMachineFor old at (machine_at old.machines at.0) before → machine_at old.machines at.0 ≡ Some m → before ≡ m
-  machine_was old at before m ran e = by_there (machine_at old.machines at.0) e ran
+  machine_was old at before m its e = by_there (machine_at old.machines at.0) e its
     where
       by_there : (o : Option (SlotMachine D)) → o ≡ Some m → IsMachineFor old at o before → before ≡ m
       by_there None k b = none_some None m refl k
