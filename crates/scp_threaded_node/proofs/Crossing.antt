@@ -11,18 +11,15 @@ use Rattle.scp_types.proofs.names.Hash.TheSendSync as hashes
 use Rattle.scp_types.proofs.names.Slot.TheSendSync as slots
 use Rattle.scp_quorum.specs.contracts.quorum_set.QuorumSet as set
 use Rattle.scp_quorum.specs.contracts.sane_set.SaneSet as sane
-use Rattle.scp_quorum.proofs.quorum_set.QuorumSet.TheLaws.TheKnot.{send-QuorumSet, sync-QuorumSet}
+use Rattle.scp_quorum.proofs.quorum_set.QuorumSet.TheLaws.TheKnot.{sync-QuorumSet}
 use Rattle.scp_quorum.proofs.quorum.places.Seat.TheSendSync as seats
 use Rattle.scp_envelope.proofs.shared.SharedEnvelope.TheSendSync as envelopes
 use Rattle.scp_envelope.proofs.shared.SharedStatement.TheSendSync as statements
-use Rattle.scp_wire.proofs.boxed.BoxedEnvelope.TheSendSync as boxes
 use Rattle.scp_wire.proofs.link.Cause.TheSendSync as causes
 use Rattle.scp_wire.proofs.link.Command.TheSendSync as commands
 use Rattle.scp_wire.proofs.link.LinkItem.TheSendSync as items
 use Rattle.scp_wire.specs.contracts.message.Message as message
-use Rattle.scp_wire.specs.contracts.side.SideMessage as side
 use Rattle.scp_wire.specs.contracts.fitting.FittingMessage as fitting
-use Rattle.scp_wire.specs.contracts.fitting.FittingMessage.TheInside as fitting_inside
 use Rattle.scp_wire.specs.contracts.carried.Carried as carried
 use Rattle.scp_wire.specs.contracts.link.Inbound as inbound
 use Rattle.scp_wire.specs.contracts.reader.LinkReader as link_reader
@@ -63,20 +60,14 @@ use Rattle.scp_ledger.specs.contracts.state.State as ledger_state
 use Rattle.scp_ledger.specs.contracts.ledger.Ledger as ledger
 use Rattle.scp_ledger.specs.contracts.ledger.Ledger.TheInside as ledger_inside
 use Rattle.scp_shared_outbox.specs.Crossing.{EndsCross}
-use Rattle.scp_ends.proofs.gate.Counter.TheSendSync as counters
-use Rattle.scp_ends.proofs.tail.LinkTx.TheSendSync as tails
+use Rattle.scp_ends.proofs.Crossing.{set_send, message_send, fitting_send, carried_send, inbound_send}
 use Rattle.scp_ends.proofs.tail.LinkDone.TheSendSync as tails_done
 use Rattle.scp_workers.specs.contracts.reading.ReadingStage as reading
 use Rattle.scp_workers.specs.contracts.slot.SlotStage as slots_stage
-use Rattle.scp_workers.specs.contracts.courier.Courier as courier
-use Rattle.scp_workers.specs.contracts.courier.Courier.TheInside as courier_inside
 use Rattle.scp_workers.specs.contracts.courier.CourierEnded as courier_ended
 use Rattle.scp_workers.specs.contracts.courier.CourierEnded.TheInside as courier_ended_inside
 
 ruleset plain = (sendable, crosses, maps.crosses)
-
-set_send : IsSend set.the_row
-set_send = search (sendable, crosses, send-QuorumSet) depth 40
 
 set_sync : IsSync set.the_row
 set_sync = search (sendable, crosses, sync-QuorumSet) depth 40
@@ -86,21 +77,6 @@ sane_send s = search (sendable, crosses) depth 40
 
 sane_sync : IsSync set.the_row → IsSync sane.the_row
 sane_sync s = search (sendable, crosses) depth 40
-
-message_send : IsSend set.the_row → IsSend message.the_row
-message_send s = search (sendable, crosses, boxes.the_send) depth 40
-
-fitting_send : IsSend message.the_row → IsSend fitting.the_row
-fitting_send m = view_send _ _ _ _ _ (declared_send fitting_inside.the_type (m, tt))
-
-carried_send : IsSend fitting.the_row → IsSend carried.the_row
-carried_send m = declared_send carried.the_type (conns.the_send, (seqs.the_send, (m, tt)))
-
-side_send : IsSend set.the_row → IsSend side.the_row
-side_send s = search (sendable, crosses) depth 40
-
-inbound_send : IsSend carried.the_row → IsSend side.the_row → IsSend inbound.the_row
-inbound_send c s = variants_send inbound.enum ((conns.the_send, tt), ((c, tt), ((conns.the_send, (s, tt)), ((conns.the_send, (causes.the_send, tt)), ((commands.the_send, tt), tt)))))
 
 link_reader_send : IsSend inbound.the_row → IsSend link_reader.the_row
 link_reader_send i = search (sendable, crosses) depth 40
@@ -180,29 +156,17 @@ its_sane_send = sane_send set_send
 its_sane_sync : IsSync sane.the_row
 its_sane_sync = sane_sync set_sync
 
-its_message_send : IsSend message.the_row
-its_message_send = message_send set_send
-
-its_fitting_send : IsSend fitting.the_row
-its_fitting_send = fitting_send its_message_send
-
-its_carried_send : IsSend carried.the_row
-its_carried_send = carried_send its_fitting_send
-
 its_delivery_send : IsSend delivery.the_row
-its_delivery_send = delivery_send (delivery_inside_send its_fitting_send its_sane_send its_sane_sync)
-
-pub its_inbound_send : IsSend inbound.the_row
-its_inbound_send = inbound_send its_carried_send (side_send set_send)
+its_delivery_send = delivery_send (delivery_inside_send fitting_send its_sane_send its_sane_sync)
 
 pub its_link_reader_send : IsSend link_reader.the_row
-its_link_reader_send = link_reader_send its_inbound_send
+its_link_reader_send = link_reader_send inbound_send
 
 pub its_ready_send : IsSend ready.the_row
 its_ready_send = ready_send its_delivery_send
 
 pub its_pending_send : IsSend pending.the_row
-its_pending_send = pending_send (parking_send (parking_inside_send (store_send its_sane_send its_sane_sync) (queue_send (parked_send its_carried_send its_delivery_send)) its_ready_send))
+its_pending_send = pending_send (parking_send (parking_inside_send (store_send its_sane_send its_sane_sync) (queue_send (parked_send carried_send its_delivery_send)) its_ready_send))
 
 its_board_send : IsSend board.the_row
 its_board_send = board_send its_sane_send its_sane_sync (table_send its_sane_send its_sane_sync (entry_send its_sane_send its_sane_sync))
@@ -211,7 +175,7 @@ its_machine_send : (d : RattleType) → IsSend d → IsSend (machine.the_row d)
 its_machine_send d crossing = machine_send d (slot_state_send d (nominator_send d crossing (nominating_send its_board_send)) (balloter_send (balloting_send its_board_send)) (newest_send (heard_send its_sane_send its_sane_sync)))
 
 its_ledger_send : (d : RattleType) (ghosts : _) → IsSend d → IsSend (ledger.the_row d ghosts)
-its_ledger_send d ghosts crossing = ledger_send d ghosts (ledger_state_send d crossing its_sane_send its_sane_sync (fate_send its_message_send its_sane_send its_sane_sync) (its_machine_send d crossing))
+its_ledger_send d ghosts crossing = ledger_send d ghosts (ledger_state_send d crossing its_sane_send its_sane_sync (fate_send message_send its_sane_send its_sane_sync) (its_machine_send d crossing))
 
 -- ---- the stages, and the couriers
 
@@ -227,12 +191,6 @@ slots_send d ghosts l = declared_send (slots_stage.the_type d ghosts) (search se
 -- of any application that crosses
 pub its_slots_send : (d : RattleType) (ghosts : _) → IsSend d → IsSend (slots_stage.the_row d ghosts)
 its_slots_send d ghosts crossing = slots_send d ghosts (its_ledger_send d ghosts crossing)
-
-courier_inside_send : EndsCross → IsSend courier_inside.the_row
-courier_inside_send o = declared_send courier_inside.the_type (search (sendable, crosses) depth 20, (o.taker, (tails.the_send, (counters.the_send, (search sendable depth 20, tt)))))
-
-pub courier_send : EndsCross → IsSend courier.the_row
-courier_send o = view_send _ _ _ _ _ (courier_inside_send o)
 
 courier_ended_inside_send : EndsCross → IsSend courier_ended_inside.the_row
 courier_ended_inside_send o = declared_send courier_ended_inside.the_type (search (sendable, crosses, tails_done.the_send) depth 20, (o.taker, (search sendable depth 20, (search sendable depth 20, tt))))

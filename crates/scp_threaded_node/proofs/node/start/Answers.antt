@@ -1,11 +1,12 @@
 use denote.Param.Send.{sendable}
 use Rattle.std.proofs.Common.{◌∙◌}
 use Rattle.std.proofs.Crossing.{crosses}
-use Rattle.scp_threaded_node.proofs.Crossing.{its_inbound_send, its_ready_send, its_pending_send}
+use Rattle.scp_ends.proofs.Crossing.{inbound_send}
+use Rattle.scp_threaded_node.proofs.Crossing.{its_ready_send, its_pending_send}
 use Rattle.scp_threaded_node.proofs.node.start.Goals as goal
 
 pub start_worker-requires-send-T : goal.start_worker-requires-send-T
-start_worker-requires-send-T g c κs within = let inbound = its_inbound_send in search (sendable, crosses) depth 40
+start_worker-requires-send-T g c κs within = let inbound = inbound_send in search (sendable, crosses) depth 40
 
 pub start_worker-requires-send-U : goal.start_worker-requires-send-U
 start_worker-requires-send-U g c κs within = let ready = its_ready_send in search (sendable, crosses) depth 40

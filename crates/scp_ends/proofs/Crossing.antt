@@ -16,23 +16,32 @@ use Rattle.scp_wire.specs.contracts.fitting.FittingMessage.TheInside as fitting_
 use Rattle.scp_wire.specs.contracts.carried.Carried as carried
 use Rattle.scp_wire.specs.contracts.link.Inbound as inbound
 
-set_send : IsSend set.the_row
-set_send = search (sendable, crosses, send-QuorumSet) depth 40
+of_set : IsSend set.the_row → IsSend message.the_row
+of_set s = search (sendable, crosses, boxes.the_send) depth 40
 
-message_send : IsSend set.the_row → IsSend message.the_row
-message_send s = search (sendable, crosses, boxes.the_send) depth 40
+of_message : IsSend message.the_row → IsSend fitting.the_row
+of_message m = view_send _ _ _ _ _ (declared_send fitting_inside.the_type (m, tt))
 
-fitting_send : IsSend message.the_row → IsSend fitting.the_row
-fitting_send m = view_send _ _ _ _ _ (declared_send fitting_inside.the_type (m, tt))
+of_fitting : IsSend fitting.the_row → IsSend carried.the_row
+of_fitting m = declared_send carried.the_type (conns.the_send, (seqs.the_send, (m, tt)))
 
-carried_send : IsSend fitting.the_row → IsSend carried.the_row
-carried_send m = declared_send carried.the_type (conns.the_send, (seqs.the_send, (m, tt)))
-
-side_send : IsSend set.the_row → IsSend side.the_row
-side_send s = search (sendable, crosses) depth 40
+side_of_set : IsSend set.the_row → IsSend side.the_row
+side_of_set s = search (sendable, crosses) depth 40
 
 of_parts : IsSend carried.the_row → IsSend side.the_row → IsSend inbound.the_row
 of_parts c s = variants_send inbound.enum ((conns.the_send, tt), ((c, tt), ((conns.the_send, (s, tt)), ((conns.the_send, (causes.the_send, tt)), ((commands.the_send, tt), tt)))))
 
+pub set_send : IsSend set.the_row
+set_send = search (sendable, crosses, send-QuorumSet) depth 40
+
+pub message_send : IsSend message.the_row
+message_send = of_set set_send
+
+pub fitting_send : IsSend fitting.the_row
+fitting_send = of_message message_send
+
+pub carried_send : IsSend carried.the_row
+carried_send = of_fitting fitting_send
+
 pub inbound_send : IsSend inbound.the_row
-inbound_send = of_parts (carried_send (fitting_send (message_send set_send))) (side_send set_send)
+inbound_send = of_parts carried_send (side_of_set set_send)
