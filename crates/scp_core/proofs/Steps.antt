@@ -7,14 +7,13 @@ use Rattle.std.proofs.lemmas.List.Elements.{filter-append}
 use Rattle.std.proofs.lemmas.Cmp.{nat_list_eq_equiv}
 use Rattle.scp_driver.specs.Driver.{Says}
 use Rattle.scp_types.specs.declared.names.NodeId.{NodeId}
-use Rattle.scp_types.specs.declared.names.ConnId.{ConnId}
 use Rattle.scp_wire.specs.declared.link.LinkItem.{LinkItem}
 use Rattle.scp_wire.specs.declared.link.LinkItem.TheVariants as item
 use Rattle.scp_wire.specs.declared.link.Inbound.{Inbound}
 use Rattle.scp_wire.specs.declared.link.Inbound.TheVariants as inbound
 use Rattle.scp_wire.specs.LinkReading.{reading, readings, after}
 use Rattle.scp_wire.specs.Connections.{conn_at, same_node}
-use Rattle.scp_wire.specs.Shape.{Tail, goes, MayGo, Come, comes, MayCome, AreInOrder, nothing_came, of_peer, is_from}
+use Rattle.scp_wire.specs.Shape.{Tail, goes, MayGo, Come, comes, AreInOrder, nothing_came, of_peer, is_from}
 use Rattle.scp_pending.specs.declared.ready.Ready.{Ready}
 use Rattle.scp_pending.specs.Pends.{Pends}
 use Rattle.scp_pending.specs.Rules.{PendingView, taken_in}
@@ -37,16 +36,10 @@ use Rattle.scp_outbox.specs.Outbox.{OutboxView}
 use Rattle.scp_core.specs.Node.{SendsOut, LinkView, NodeView, with_link, said_in, Accepts, Moves}
 use Rattle.scp_core.specs.Flow.{LinkFlows, Flows}
 use Rattle.scp_core.proofs.Queues.{way-fill, way-put, way-take, get_set, at_changed, within}
+use Rattle.scp_theorem.proofs.Coming.{from_one}
 use Rattle.scp_core.proofs.Links.{link-put, put_same, link-take, link-give, give_more, hand_cut, in_order, more}
 
 -- ---- which link an item is of
-
-from_one : (peer me q : NodeId) (h : Come) (x : Inbound) → MayCome peer me h x → is_from q x ≡ same_node peer q
-from_one peer me q h (inbound.Opened conn) m = ap (λ (c : ConnId). same_node c.from q) m.1
-from_one peer me q h (inbound.Carried x) m = ap (λ (c : ConnId). same_node c.from q) m.1
-from_one peer me q h (inbound.Side conn message) m = ap (λ (c : ConnId). same_node c.from q) m.1
-from_one peer me q h (inbound.Closed conn cause) m = ap (λ (c : ConnId). same_node c.from q) m.1
-from_one peer me q h (inbound.Local command) m = absurd m
 
 from_is : (peer me q : NodeId) (h : Come) (xs : List Inbound) (x : Inbound) (rest : List Inbound) → AreInOrder peer me h (xs ++ x ∷ rest) → is_from q x ≡ same_node peer q
 from_is peer me q h [] x rest a = from_one peer me q h x a.0

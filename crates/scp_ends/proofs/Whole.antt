@@ -20,7 +20,7 @@ module _ {T : Type 0} where
   values_ended n xs = values_stop (ones n xs) n ∙ values_ones n xs
 
   -- the end is among the items of its producer
-  stopped_of : (p : ℕ) (got : List (Item T)) → stopped p got ≡ true → stopped p (of p got) ≡ true
+  pub stopped_of : (p : ℕ) (got : List (Item T)) → stopped p got ≡ true → stopped p (of p got) ≡ true
   stopped_of p [] h = absurd (true≢false (sym h))
   stopped_of p (One n x ∷ xs) h = elim (n == p) as (λ b. stopped p (cond b (One n x ∷ of p xs) (of p xs)) ≡ true) [ true ↦ stopped_of p xs h | false ↦ stopped_of p xs h ]
   stopped_of p (Stop n ∷ xs) h =
@@ -30,7 +30,7 @@ module _ {T : Type 0} where
       ] refl h
 
   -- of two lists that together are what an ended producer sent, the first has all where it has the end
-  all_of : (n : ℕ) (xs : List T) (first rest : List (Item T)) → ended n xs ≡ first ++ rest → stopped n first ≡ true → first ≡ ended n xs
+  pub all_of : (n : ℕ) (xs : List T) (first rest : List (Item T)) → ended n xs ≡ first ++ rest → stopped n first ≡ true → first ≡ ended n xs
   all_of n xs [] rest e h = absurd (true≢false (sym h))
   all_of n [] (a ∷ []) rest e h = cc
   all_of n [] (a ∷ b ∷ l) rest e h = cc

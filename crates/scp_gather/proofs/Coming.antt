@@ -17,13 +17,6 @@ use Rattle.scp_gather.specs.Gathered.{is_command}
 
 -- ---- of a link, or a command
 
-pub from_one : (peer me q : NodeId) (h : Come) (x : Inbound) → MayCome peer me h x → is_from q x ≡ same_node peer q
-from_one peer me q h (inbound.Opened conn) m = ap (λ (c : ConnId). same_node c.from q) m.1
-from_one peer me q h (inbound.Carried x) m = ap (λ (c : ConnId). same_node c.from q) m.1
-from_one peer me q h (inbound.Side conn message) m = ap (λ (c : ConnId). same_node c.from q) m.1
-from_one peer me q h (inbound.Closed conn cause) m = ap (λ (c : ConnId). same_node c.from q) m.1
-from_one peer me q h (inbound.Local command) m = absurd m
-
 pub no_command : (peer me : NodeId) (h : Come) (x : Inbound) → MayCome peer me h x → is_command x ≡ false
 no_command peer me h (inbound.Opened conn) m = refl
 no_command peer me h (inbound.Carried x) m = refl

@@ -42,11 +42,13 @@ use Rattle.scp_workers.specs.Slot.{IsFor as JournalsFor}
 use Rattle.scp_gather.specs.Left.{Left, items_of, sent_over}
 use Rattle.scp_gather.specs.Node.{IsLinkAt, IsReadOut, IsNode, EndWell}
 use Rattle.scp_gather.specs.Gathered.{account_gathered, is_command, IsEmptied, AreEmptied, HasItsLine, AreLeftParked, Gathered, WhatEndsWellIsGathered}
-use Rattle.scp_gather.proofs.Hearing.{emptied, no_others, sole_is, Tells, picked, of_each}
+use Rattle.scp_ends.proofs.Whole.{no_others}
+use Rattle.scp_gather.proofs.Hearing.{emptied, sole_is, Tells, picked, of_each}
 use Rattle.scp_theorem.proofs.Basics.{there_is}
 use Rattle.scp_gather.proofs.Lists.{split, within, same_at, other_at, all_map}
-use Rattle.scp_gather.proofs.Coming.{from_one, no_command, from_none, told_one, all_in_order, same_place, IsCarriedByLink, carried_by_link, told_by_link}
-use Rattle.scp_gather.proofs.Entries.{same_marks}
+use Rattle.scp_theorem.proofs.Coming.{from_one}
+use Rattle.scp_gather.proofs.Coming.{no_command, from_none, told_one, all_in_order, same_place, IsCarriedByLink, carried_by_link, told_by_link}
+use Rattle.scp_theorem.proofs.Entries.{same_marks}
 use Rattle.scp_gather.proofs.Parking.{parked_right, parked_of_links}
 
 module _ {D : Type 0} (says : Says D) where

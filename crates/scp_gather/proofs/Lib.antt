@@ -1,6 +1,5 @@
 pub mod Hearing
 pub mod Lists
-pub mod Entries
 pub mod Coming
 pub mod Parking
 pub mod Joining

@@ -21,3 +21,4 @@ pub mod Asked
 pub mod Telling
 pub mod Fit
 pub mod Going
+pub mod Coming
