@@ -1,5 +1,5 @@
 -- The outboxes of a node: what was handed out for each link, and what was sent of it.
-use Rattle.std.proofs.Common.{◌≡◌, ◌≢◌, ℕ, ◌<◌, true, false, List, [], ◌∷◌, ◌++◌, refl, sym, ◌∙◌, ap, subst, arith, append-nil, append_assoc, length-append, All, get_or, inl, inr, ◌⊎◌, nat_eq, Bool, zero, suc}
+use Rattle.std.proofs.Common.{◌≡◌, ◌≢◌, ℕ, ◌<◌, true, false, List, [], ◌∷◌, ◌++◌, refl, sym, ◌∙◌, subst, arith, append-nil, append_assoc, length-append, All, get_or, inl, inr, ◌⊎◌, nat_eq, Bool}
 use Rattle.std.specs.Prelude.{Option, Some, None, slice_get, slice_set, replicate}
 use Rattle.std.proofs.lemmas.List.{get_or_append_left}
 use Rattle.std.proofs.lemmas.List.Elements.{All-contains, All-nil}
