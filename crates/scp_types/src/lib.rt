@@ -5,7 +5,8 @@
 //!   prefix is less than the whole, ballots by counter and then value, connections by sender, receiver and life;
 //! - `Value` is its bytes: what goes in comes out. A `SharedValue` is its value, which ballots share;
 //! - a copy equals the original, and is refused only when memory runs out;
-//! - each fault has its number, 1 to 14.
+//! - each fault has its number, 1 to 14;
+//! - `Capacities` of a node's queues are in range exactly if each is 1 to 1,024.
 //!
 //! The limits that several crates name are here, once.
 //!
@@ -15,6 +16,7 @@
 
 mod ballot;
 mod bytes;
+mod capacities;
 mod fault;
 mod laws;
 mod limits;
@@ -23,6 +25,7 @@ mod shared;
 mod value;
 
 pub use ballot::Ballot;
+pub use capacities::Capacities;
 pub use fault::{Fault, Stage};
 pub use laws::{
     ballots_are_ordered_by_counter_then_value, connections_are_ordered_by_sender_receiver_life,
