@@ -3,19 +3,15 @@ use Rattle.std.specs.Prelude.{ℕ, ◌≤◌, ◌≡◌, Bool, true, false, not,
 use Rattle.scp_types.specs.declared.names.NodeId.{NodeId}
 use Rattle.scp_quorum.specs.Sane.{IsSane}
 use Rattle.scp_theorem.specs.Fates.{is_among}
-use Rattle.scp_core.specs.declared.config.Capacities.{Capacities}
 use Rattle.scp_core.specs.declared.config.Config.{Config}
 use Rattle.scp_types.specs.declared.limits.TheConstants.{PEER_LIMIT, LINK_LIMIT}
-use Rattle.scp_types.specs.Range.{IsInRange}
+use Rattle.scp_types.specs.declared.capacities.Capacities.{Capacities}
+use Rattle.scp_types.specs.Range.{AreInRange}
 
 -- no peer is in the list twice
 abbrev pub are_apart : List NodeId → Bool
 are_apart [] = true
 are_apart (peer ∷ peers) = not (is_among peer peers) && are_apart peers
-
--- each of the four capacities is in range
-abbrev pub AreInRange : Capacities → Type 0
-AreInRange c = IsInRange c.link × IsInRange c.inbox × IsInRange c.ready × IsInRange c.decided
 
 -- at most this many peers, none twice and not the node itself, and capacities from 1 to 1,024
 pub record IsFitWithin (most : ℕ) (me : NodeId) (peers : List NodeId) (capacities : Capacities) : Type 0 where

@@ -1,10 +1,10 @@
 //! What a node is made of.
-ghost use Rattle.std.specs.Prelude.{◌≡◌, ◌≤◌, ◌↔◌, IsTrue};
+ghost use Rattle.std.specs.Prelude.{◌≡◌};
 ghost use Rattle.scp_theorem.specs.Fates.{is_among};
-ghost use Rattle.scp_core.specs.Config.{are_apart, AreInRange};
+ghost use Rattle.scp_core.specs.Config.{are_apart};
 
 use scp_quorum::QuorumSet;
-use scp_types::{CAPACITY_LIMIT, NodeId};
+use scp_types::{Capacities, NodeId};
 use std::marker::Model;
 
 /// The nodes at the other ends of a node's links, in the order of the links.
@@ -34,33 +34,6 @@ impl Peers {
     {
         self.0.as_slice()
     }
-}
-
-/// The most items that each queue holds: each link's queue, the inbox, the ready and the decided queue. Each number is 1 to 1,024.
-#[derive(Clone, Copy, Debug, PartialEq, Eq)]
-pub struct Capacities {
-    pub link: u16,
-    pub inbox: u16,
-    pub ready: u16,
-    pub decided: u16,
-}
-
-impl Capacities {
-    /// Whether each is 1 to 1,024.
-    pub(crate) fn are_in_range(&self) -> bool
-        ensures { IsTrue result ↔ AreInRange self.now }
-    {
-        is_in_range(self.link)
-            && is_in_range(self.inbox)
-            && is_in_range(self.ready)
-            && is_in_range(self.decided)
-    }
-}
-
-fn is_in_range(capacity: u16) -> bool
-    ensures { IsTrue result ↔ ((1 ≤ capacity) × (capacity ≤ 1024)) }
-{
-    capacity >= 1 && capacity <= CAPACITY_LIMIT
 }
 
 /// Who a node is, what it is linked to, and what its queues hold.

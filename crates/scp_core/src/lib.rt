@@ -28,7 +28,7 @@ mod said;
 mod stage;
 mod stop;
 
-pub use config::{Capacities, Config, Peers};
+pub use config::{Config, Peers};
 pub use event::{Event, Reply};
 pub use laws::{
     each_node_holds_its_headline, each_node_holds_its_ledger, each_step_says_why_it_failed,
@@ -43,5 +43,5 @@ pub use scp_driver::{Application, Driver, KvDriver, Level};
 pub use scp_ledger::{CommandFate, Decision, Fate, Origin, SharedDecision, Verdict, timers};
 pub use scp_pending::DropCause;
 pub use scp_slot::Timer;
-pub use scp_types::{CAPACITY_LIMIT, LIFE_LIMIT};
+pub use scp_types::{CAPACITY_LIMIT, Capacities, LIFE_LIMIT};
 pub use scp_wire::{Bytes, Cause, Command};

@@ -12,7 +12,7 @@ ghost use Rattle.scp_outbox.specs.Handing.{waiting_at, overwritten_at};
 ghost use Rattle.scp_core.specs.Theorem.{LedgerTheorem};
 ghost use Rattle.scp_core.specs.inside.Starting.{IsNew};
 
-use crate::config::{Capacities, Config, Peers, are_peers_apart, has_peer};
+use crate::config::{Config, Peers, are_peers_apart, has_peer};
 use crate::decider::Decider;
 use crate::event::{Event, Reply};
 use crate::handing::{draw, hand_out};
@@ -30,7 +30,7 @@ use scp_outbox::Outboxes;
 use scp_pending::{Pending, Ready};
 use scp_quorum::{QuorumSet, SaneSet};
 use scp_slot::Timer;
-use scp_types::{ConnId, Fault, LINK_LIMIT, NodeId, PEER_LIMIT, Slot, Value};
+use scp_types::{Capacities, ConnId, Fault, LINK_LIMIT, NodeId, PEER_LIMIT, Slot, Value};
 use scp_wire::{Bytes, Command, Inbound, LinkItem};
 use std::alloc::Global;
 use std::marker::Model;

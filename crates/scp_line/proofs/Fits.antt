@@ -13,12 +13,12 @@ use Rattle.scp_quorum.specs.QuorumTree.{QuorumTree}
 use Rattle.scp_quorum.specs.Sane.{IsSane}
 use Rattle.scp_turn.specs.scp_core.specs.declared.config.Config.{Config}
 use Rattle.scp_theorem.specs.Fates.{is_among}
-use Rattle.scp_types.specs.Range.{IsInRange}
-use Rattle.scp_turn.specs.scp_core.specs.Config.{AreInRange, IsFitWithin, IsConfig, are_apart}
+use Rattle.scp_types.specs.Range.{IsInRange, AreInRange}
+use Rattle.scp_turn.specs.scp_core.specs.Config.{IsFitWithin, IsConfig, are_apart}
 use Rattle.scp_turn.specs.scp_core.specs.Kv.{NodeView}
 use Rattle.scp_script.specs.declared.command.Command.{Command}
 use Rattle.scp_script.specs.declared.command.Command.TheVariants.{Caps, Nodes, Set, Open, Close, Send, Propose, Round, Timer, Tick, Ask, Settle, Wait, Report}
-use Rattle.scp_script.specs.declared.command.Capacities.{Capacities}
+use Rattle.scp_types.specs.declared.capacities.Capacities.{Capacities}
 use Rattle.scp_script.specs.Words.{words_of, lines_of, same, node_in, link_in, number_in, capacity_in, capacity_by, hex_bytes, set_in}
 use Rattle.scp_script.specs.Script.{node_count, command_in, commands_of, commands_in, caps_by, nodes_by, set_by, open_by, close_by, send_by, ask_by, propose_by, round_by, timer_by, wait_by}
 use Rattle.scp_script.specs.Nodes.{id_of, peers_of, set_at, capacities_given, capacities_of_none, capacities_in}
@@ -93,7 +93,7 @@ made (Err f) c fits refused (inr short) = short
 -- ---- the capacities
 
 abbrev CapsFit : Command → Type 0
-CapsFit (Caps c) = IsInRange c.link × IsInRange c.inbox × IsInRange c.ready × IsInRange c.decided
+CapsFit (Caps c) = AreInRange c
 CapsFit (Nodes count quorum) = Unit {0}
 CapsFit (Set node set) = Unit {0}
 CapsFit (Open from to) = Unit {0}
@@ -208,24 +208,21 @@ line_fits (verb ∷ link ∷ inbox ∷ ready ∷ decided ∷ []) =
     (caps_fit (capacity_in link) (capacity_in inbox) (capacity_in ready) (capacity_in decided) (is_in_range (number_in link)) (is_in_range (number_in inbox)) (is_in_range (number_in ready)) (is_in_range (number_in decided))) tt
 line_fits (verb ∷ a ∷ b ∷ c ∷ d ∷ more ∷ words) = tt
 
-abbrev pub RoomFits : Capacities → Type 0
-RoomFits c = IsInRange c.link × IsInRange c.inbox × IsInRange c.ready × IsInRange c.decided
-
-given_fits : (command : Command) → CapsFit command → All RoomFits (capacities_given command)
-given_fits (Caps c) fits = All-cons RoomFits c [] fits (All-nil RoomFits)
-given_fits (Nodes count quorum) fits = All-nil RoomFits
-given_fits (Set node set) fits = All-nil RoomFits
-given_fits (Open from to) fits = All-nil RoomFits
-given_fits (Close from to) fits = All-nil RoomFits
-given_fits (Send from to bytes) fits = All-nil RoomFits
-given_fits (Propose node slot value) fits = All-nil RoomFits
-given_fits (Round node slot) fits = All-nil RoomFits
-given_fits (Timer node slot) fits = All-nil RoomFits
-given_fits (Tick node) fits = All-nil RoomFits
-given_fits (Ask from to slot) fits = All-nil RoomFits
-given_fits Settle fits = All-nil RoomFits
-given_fits (Wait node things) fits = All-nil RoomFits
-given_fits (Report node) fits = All-nil RoomFits
+given_fits : (command : Command) → CapsFit command → All AreInRange (capacities_given command)
+given_fits (Caps c) fits = All-cons AreInRange c [] fits (All-nil AreInRange)
+given_fits (Nodes count quorum) fits = All-nil AreInRange
+given_fits (Set node set) fits = All-nil AreInRange
+given_fits (Open from to) fits = All-nil AreInRange
+given_fits (Close from to) fits = All-nil AreInRange
+given_fits (Send from to bytes) fits = All-nil AreInRange
+given_fits (Propose node slot value) fits = All-nil AreInRange
+given_fits (Round node slot) fits = All-nil AreInRange
+given_fits (Timer node slot) fits = All-nil AreInRange
+given_fits (Tick node) fits = All-nil AreInRange
+given_fits (Ask from to slot) fits = All-nil AreInRange
+given_fits Settle fits = All-nil AreInRange
+given_fits (Wait node things) fits = All-nil AreInRange
+given_fits (Report node) fits = All-nil AreInRange
 
 read_fits : (o : Option Command) → IfSome o CapsFit → All CapsFit (option_to_list o)
 read_fits None fits = All-nil CapsFit
@@ -235,21 +232,21 @@ lines_fit : (lines : List (List ℕ)) → All CapsFit (commands_of lines)
 lines_fit [] = All-nil CapsFit
 lines_fit (line ∷ lines) = All-append CapsFit (option_to_list (command_in (words_of line))) (commands_of lines) (read_fits (command_in (words_of line)) (line_fits (words_of line))) (lines_fit lines)
 
-all_given_fit : (commands : List Command) → All CapsFit commands → All RoomFits (flat_map capacities_given commands)
-all_given_fit [] fits = All-nil RoomFits
+all_given_fit : (commands : List Command) → All CapsFit commands → All AreInRange (flat_map capacities_given commands)
+all_given_fit [] fits = All-nil AreInRange
 all_given_fit (command ∷ commands) fits =
-    All-append RoomFits (capacities_given command) (flat_map capacities_given commands) (given_fits command (All-head CapsFit command commands fits)) (all_given_fit commands (All-tail CapsFit command commands fits))
+    All-append AreInRange (capacities_given command) (flat_map capacities_given commands) (given_fits command (All-head CapsFit command commands fits)) (all_given_fit commands (All-tail CapsFit command commands fits))
 
-last_fits : (o : Option Capacities) (given : List Capacities) → IfSome o RoomFits → All RoomFits given → IfSome (last_or o given) RoomFits
+last_fits : (o : Option Capacities) (given : List Capacities) → IfSome o AreInRange → All AreInRange given → IfSome (last_or o given) AreInRange
 last_fits o [] fits all = fits
-last_fits o (c ∷ given) fits all = last_fits (Some c) given (All-head RoomFits c given all) (All-tail RoomFits c given all)
+last_fits o (c ∷ given) fits all = last_fits (Some c) given (All-head AreInRange c given all) (All-tail AreInRange c given all)
 
-or_fits : (o : Option Capacities) → IfSome o RoomFits → RoomFits (unwrap_or o capacities_of_none)
+or_fits : (o : Option Capacities) → IfSome o AreInRange → AreInRange (unwrap_or o capacities_of_none)
 or_fits None fits = ((omega arith, omega arith), (omega arith, omega arith), (omega arith, omega arith), (omega arith, omega arith))
 or_fits (Some c) fits = fits
 
 -- what lines say of their queues is in range
-room_fits : (lines : List (List ℕ)) → RoomFits (capacities_in (commands_of lines))
+room_fits : (lines : List (List ℕ)) → AreInRange (capacities_in (commands_of lines))
 room_fits lines =
     let given = flat_map capacities_given (commands_of lines) in
     or_fits (last_or None given) (last_fits None given tt (all_given_fit (commands_of lines) (lines_fit lines)))
@@ -257,7 +254,7 @@ room_fits lines =
 pub lines_have_room : (lines : List (List ℕ)) → HaveRoom (commands_of lines)
 lines_have_room lines = room_fits lines
 
-pub script_fits : (script : List ℕ) (commands : List Command) → commands ≡ commands_in script → RoomFits (capacities_in commands)
+pub script_fits : (script : List ℕ) (commands : List Command) → commands ≡ commands_in script → AreInRange (capacities_in commands)
 script_fits script commands same = rw same (room_fits (lines_of script))
 
 pub script_has_room : (script : List ℕ) (commands : List Command) → commands ≡ commands_in script → HaveRoom commands

@@ -4,8 +4,6 @@ use Rattle.scp_types.specs.declared.limits.TheConstants.{NODE_LIMIT}
 use Rattle.scp_types.specs.declared.fault.Fault.{Fault}
 use Rattle.scp_types.specs.declared.fault.Fault.TheVariants.{NoMemory, Malformed, TooLong, Insane, Full, NotOpen, AlreadyOpen, LivesSpent, BadConfig, Failed, JournalFull, BadScript, Refused, Device}
 use Rattle.scp_threaded_script.specs.scp_gather.specs.Kv.{NodeReport}
-use Rattle.scp_threaded_script.specs.Rooms.{capacities_in}
-use Rattle.scp_threaded_script.specs.scp_threaded_node.specs.Sources.{HaveRoom}
 use Rattle.scp_types.specs.declared.fault.Stage.{Stage}
 use Rattle.scp_types.specs.declared.fault.Stage.TheVariants.{Reader, Pend, Slot, Apply}
 use Rattle.scp_threaded_script.specs.declared.running.NodeFault.{NodeFault}
@@ -17,13 +15,6 @@ use Rattle.scp_line.specs.Left.{reports_left}
 use Rattle.scp_report.specs.Reports.{settled_text}
 use Rattle.scp_line.specs.Play.{IsNamed}
 use Rattle.scp_line.specs.Threads.{AreGatheredReports, AreGivenUp, IsThreadsFault}
-use Rattle.scp_line.proofs.Fits.{script_fits}
-
--- what a script says of its queues is in range
-pub threads_have_room : (script : List ℕ) (commands : List Command) → commands ≡ commands_in script → HaveRoom (capacities_in commands)
-threads_have_room script commands same =
-    let fits = script_fits script commands same in
-    record { link = fits.0; inbox = fits.1; ready = fits.2; decided = fits.3 }
 
 pub are_gathered_reports : (script text : List ℕ) (commands : List Command) (nodes : List NodeReport) → commands ≡ commands_in script → AreNodesReported commands nodes
     → text ≡ settled_text (reports_left commands nodes []) commands → AreGatheredReports script text

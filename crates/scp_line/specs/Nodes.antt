@@ -4,7 +4,7 @@ use Rattle.scp_types.specs.declared.fault.Fault.TheVariants.{NoMemory, Failed as
 use Rattle.scp_turn.specs.scp_core.specs.declared.event.Event.{Event}
 use Rattle.scp_turn.specs.scp_core.specs.declared.event.Reply.{Reply}
 use Rattle.scp_turn.specs.scp_core.specs.declared.event.Reply.TheVariants.{Accepted, Full}
-use Rattle.scp_turn.specs.scp_core.specs.Config.{AreInRange}
+use Rattle.scp_types.specs.Range.{AreInRange}
 use Rattle.scp_turn.specs.scp_core.specs.Kv.{NodeView}
 use Rattle.scp_turn.specs.declared.watch.NoWatch.{NoWatch}
 use Rattle.scp_turn.specs.Watch.{unwatched}
@@ -15,14 +15,14 @@ use Rattle.scp_turn.specs.Network.{Hear, NetworkView}
 use Rattle.scp_script.specs.declared.command.Command.{Command}
 use Rattle.scp_script.specs.declared.command.Command.TheVariants as script
 use Rattle.scp_script.specs.Script.{node_count}
-use Rattle.scp_script.specs.Nodes.{IsSmall}
+use Rattle.scp_script.specs.Nodes.{IsSmall, capacities_in}
 use Rattle.scp_line.specs.declared.playing.PlayFault.{PlayFault}
 use Rattle.scp_line.specs.Links.{AreLinked}
 use Rattle.scp_line.specs.Play.{AreNew, Answers, ArePlayed, Stops, Overflows, driven_in, event_by, config_of}
 
 -- the capacities that the commands give are in range
 abbrev pub HaveRoom : List Command → Type 0
-HaveRoom commands = AreInRange (config_of commands 1).capacities
+HaveRoom commands = AreInRange (capacities_in commands)
 
 -- The nodes of a script as they were made, with the links on which the script alone sends.
 pub record AreMade (commands : List Command) (network : NetworkView) : Type 0 where

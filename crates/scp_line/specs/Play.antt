@@ -85,12 +85,7 @@ config_of commands number = record {
   me = id_of number;
   set = set_at number commands;
   peers = peers_of (node_count commands) number;
-  capacities = record {
-    link = (capacities_in commands).link;
-    inbox = (capacities_in commands).inbox;
-    ready = (capacities_in commands).ready;
-    decided = (capacities_in commands).decided;
-  };
+  capacities = capacities_in commands;
 }
 
 -- The node of this number as it was made: it has the configuration that the script gives it, and has heard nothing.

@@ -18,9 +18,7 @@ use crate::watch::Nobody;
 use scp_report::{reports_of, settled_report};
 use scp_script::{Command, capacities_of, count_of_nodes, id_from, peers_of_node, set_of_node};
 use scp_threaded_script::command_of;
-use scp_turn::{
-    Capacities, Config, Event, KvDriver, Network, NoWatch, Node, Peers, Reply, Watch, link_of,
-};
+use scp_turn::{Config, Event, KvDriver, Network, NoWatch, Node, Peers, Reply, Watch, link_of};
 use scp_types::Fault;
 use std::alloc::{AllocError, Global};
 
@@ -36,17 +34,11 @@ fn config_from(alloc: Global, commands: &[Command], count: u8, number: u8) -> Re
     ensures fit { IfOk result IsConfig }
     ensures only_memory { IsOkUnless result Fault.NoMemory }
 {
-    let capacities = capacities_of(commands);
     Ok(Config {
         me: id_from(number),
         set: set_of_node(alloc, commands, number)?,
         peers: Peers::new(peers_of_node(alloc, count, number)?),
-        capacities: Capacities {
-            link: capacities.link,
-            inbox: capacities.inbox,
-            ready: capacities.ready,
-            decided: capacities.decided,
-        },
+        capacities: capacities_of(commands),
     })
 }
 

@@ -8,7 +8,7 @@ use Rattle.scp_xdr.specs.Tree.{no_trees}
 use Rattle.scp_quorum.specs.QuorumTree.{QuorumTree}
 use Rattle.scp_script.specs.declared.command.Command.{Command}
 use Rattle.scp_script.specs.declared.command.Command.TheVariants.{Caps, Nodes, Set, Open, Close, Send, Propose, Round, Timer, Tick, Ask, Settle, Wait, Report}
-use Rattle.scp_script.specs.declared.command.Capacities.{Capacities}
+use Rattle.scp_types.specs.declared.capacities.Capacities.{Capacities}
 
 -- a number from 1 to 8
 abbrev pub IsSmall : ℕ → Type 0

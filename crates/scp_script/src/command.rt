@@ -1,21 +1,8 @@
 //! What a line of a script says.
 
 use scp_quorum::QuorumSet;
-use scp_types::Value;
+use scp_types::{Capacities, Value};
 use scp_wire::Bytes;
-
-/// How many items the queues of a node hold, each from 1 to 1,024.
-#[derive(Clone, Copy, Debug, PartialEq, Eq)]
-pub struct Capacities {
-    /// What travels over one link.
-    pub link: u16,
-    /// What was read and waits for the pending stage.
-    pub inbox: u16,
-    /// What is ready for the slot stage.
-    pub ready: u16,
-    /// Decisions that wait for the applier.
-    pub decided: u16,
-}
 
 /// What a line of a script says. Nodes are named by their numbers, 1 to 8. A link is named by the node that it goes from and the node
 /// that it goes to, which is another one.

@@ -21,7 +21,7 @@ mod reason;
 mod words;
 
 pub use bytes::odd_bytes;
-pub use command::{Capacities, Command};
+pub use command::Command;
 pub use nodes::{capacities_of, count_of_nodes, id_from, peers_of_node, set_of_node};
 pub use parsing::parse;
 pub use reading::Reading;

@@ -6,9 +6,9 @@ ghost use Rattle.scp_script.specs.inside.Bare.{bare};
 ghost use Rattle.scp_script.specs.Nodes.{NamesNodes};
 ghost use Rattle.scp_script.specs.declared.command.Command.TheVariants.{Tick, Report};
 
-use crate::command::{Capacities, Command};
+use crate::command::Command;
 use crate::words::{are_digits, bytes_of, capacity, link, node, number, set_of, value_of};
-use scp_types::{Fault, Value};
+use scp_types::{Capacities, Fault, Value};
 use scp_wire::Bytes;
 use std::alloc::Global;
 

@@ -5,9 +5,9 @@ ghost use Rattle.scp_quorum.specs.Sane.{IsSane};
 ghost use Rattle.scp_script.specs.Script.{node_count, AreAdmitted, IsNode};
 ghost use Rattle.scp_script.specs.Nodes.{NamesNodes, IsSmall, id_of, numbers, peers_of, of_all, set_given, set_at, capacities_in};
 
-use crate::command::{Capacities, Command};
+use crate::command::Command;
 use scp_quorum::QuorumSet;
-use scp_types::{Fault, NodeId};
+use scp_types::{Capacities, Fault, NodeId};
 use std::alloc::{AllocError, Global};
 
 /// The id of a node: 32 bytes, each of which is its number.

@@ -12,7 +12,7 @@ use crate::lines::Happened;
 use crate::links::Links;
 use rand_chacha::ChaCha12Rng;
 use rand_core::SeedableRng;
-use scp_core::{Capacities, Config, KvDriver, Node, Peers};
+use scp_core::{Config, KvDriver, Node, Peers};
 use scp_line::{PlayFault, a_script_has_room, new_network};
 use scp_script::{capacities_of, count_of_nodes, id_from, peers_of_node, set_of_node};
 use scp_script_check::{ReadFault, Script};
@@ -141,17 +141,11 @@ fn twin_of(alloc: Global, script: &Script, count: u8, number: u8) -> Result<Node
     requires few { count ≤ NODE_LIMIT }
 {
     let commands = script.commands.as_slice();
-    let capacities = capacities_of(commands);
     let config = Config {
         me: id_from(number),
         set: set_of_node(alloc, commands, number)?,
         peers: Peers::new(peers_of_node(alloc, count, number)?),
-        capacities: Capacities {
-            link: capacities.link,
-            inbox: capacities.inbox,
-            ready: capacities.ready,
-            decided: capacities.decided,
-        },
+        capacities: capacities_of(commands),
     };
     Node::new(alloc, config, KvDriver)
 }

@@ -1,8 +1,6 @@
 //! What a script is read as. Scripts that are refused, and at which line, are in examples/scripts.calls.
-use scp_script::{
-    Capacities, Command, capacities_of, count_of_nodes, id_from, parse, peers_of_node,
-};
-use scp_types::NodeId;
+use scp_script::{Command, capacities_of, count_of_nodes, id_from, parse, peers_of_node};
+use scp_types::{Capacities, NodeId};
 use std::process::Abort;
 use std::test::Fail;
 

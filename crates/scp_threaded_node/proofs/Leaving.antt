@@ -29,7 +29,7 @@ use Rattle.scp_gather.specs.Report.{IsJoined, AreJoined, SendsTo, keeps_by}
 use Rattle.scp_threaded_node.specs.declared.ending.Stood.{Stood}
 use Rattle.scp_threaded_node.specs.declared.node.Node.{Node}
 use Rattle.scp_threaded_node.specs.declared.node.Running.{Running}
-use Rattle.scp_threaded_node.specs.declared.capacities.Capacities.{Capacities}
+use Rattle.scp_types.specs.declared.capacities.Capacities.{Capacities}
 use Rattle.scp_threaded_node.specs.Seats.{IsLane, IsDriven, AreDriven, Runs, SendsAs, tail_of}
 use Rattle.scp_threaded_node.specs.Ended.{IsSentBy, AreSentBy, AreSized}
 use Rattle.scp_threaded_node.specs.declared.ending.TailLeft.{TailLeft}

@@ -8,7 +8,7 @@ use Rattle.scp_wire.specs.declared.link.LinkItem.{LinkItem}
 use Rattle.scp_ends.specs.Ends.{Line}
 use Rattle.scp_ends.specs.Links.{LinkEnd, with_item}
 use Rattle.scp_workers.specs.Reading.{ReaderWork}
-use Rattle.scp_threaded_node.specs.declared.capacities.Capacities.{Capacities}
+use Rattle.scp_types.specs.declared.capacities.Capacities.{Capacities}
 use Rattle.scp_threaded_node.specs.declared.acting.Act.{Act}
 use Rattle.scp_threaded_node.specs.declared.acting.Act.TheVariants.{Open, Close, Send}
 use Rattle.scp_threaded_node.specs.declared.node.Node.{Node}

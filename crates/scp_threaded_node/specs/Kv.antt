@@ -12,7 +12,7 @@ use Rattle.scp_shared_outbox.specs.declared.outlets.Outlets.{Outlets}
 use Rattle.scp_wire.specs.declared.link.Inbound.{Inbound}
 use Rattle.scp_wire.specs.declared.link.LinkItem.{LinkItem}
 use Rattle.scp_gather.specs.Kv.{NodeReport, Left}
-use Rattle.scp_threaded_node.specs.declared.capacities.Capacities.{Capacities}
+use Rattle.scp_types.specs.declared.capacities.Capacities.{Capacities}
 use Rattle.scp_threaded_node.specs.declared.ending.Over as over
 use Rattle.scp_threaded_node.specs.declared.ending.Stood.{Stood}
 use Rattle.scp_threaded_node.specs.declared.node.Node as node

@@ -7,7 +7,7 @@ use Rattle.scp_wire.specs.declared.link.LinkItem.{LinkItem}
 pub use Rattle.scp_shared_outbox.specs.Places.{Each}
 use Rattle.scp_ends.specs.Ends.{Line, Sender}
 use Rattle.scp_ends.specs.Links.{LinkEnd}
-use Rattle.scp_threaded_node.specs.declared.capacities.Capacities.{Capacities}
+use Rattle.scp_types.specs.declared.capacities.Capacities.{Capacities}
 use Rattle.scp_workers.specs.Working.{Work}
 use Rattle.scp_workers.specs.Reading.{ReaderWork}
 use Rattle.scp_workers.specs.Pending.{PendWork, IsFor as PendsFor}

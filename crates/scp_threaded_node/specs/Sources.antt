@@ -1,10 +1,8 @@
 -- What a node is started with.
 use Rattle.std.specs.Prelude.{◌≡◌, ℕ, Bool, List, [], Option, Some, None, is_none}
 use Rattle.scp_shared_outbox.specs.Ends.{TakerView}
-use Rattle.scp_threaded_node.specs.declared.capacities.Capacities.{Capacities}
 use Rattle.scp_threaded_node.specs.declared.node.Source.{Source}
 use Rattle.scp_threaded_node.specs.Seats.{Each}
-use Rattle.scp_types.specs.Range.{IsInRange}
 
 -- on each link that the host drives there is no courier, and on each other link there is one
 abbrev pub AreSources : (ℕ → Bool) → List (Option Source) → Type 0
@@ -23,10 +21,3 @@ AreFresh sources = Each (λ i source. IsFresh source) sources
 abbrev pub taker_from : Option Source → Option TakerView
 taker_from None = None
 taker_from (Some source) = Some source.taker
-
--- each capacity is from 1 to 1,024
-pub record HaveRoom (c : Capacities) : Type 0 where
-  pub link : IsInRange c.link
-  pub inbox : IsInRange c.inbox
-  pub ready : IsInRange c.ready
-  pub decided : IsInRange c.decided

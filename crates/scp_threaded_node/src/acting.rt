@@ -2,7 +2,7 @@
 ghost use Rattle.std.specs.Prelude.{◌≡◌, ◌<◌, List, None, Some, OnOk, OnErr, IsOkUnless, MatchResult, length, slice_get};
 ghost use Rattle.scp_types.specs.declared.names.NodeId.{NodeId};
 ghost use Rattle.scp_quorum.specs.QuorumTree.{QuorumTree};
-ghost use Rattle.scp_threaded_node.specs.declared.capacities.Capacities.{Capacities};
+ghost use Rattle.scp_types.specs.declared.capacities.Capacities.{Capacities};
 ghost use Rattle.scp_types.specs.declared.fault.Stage.TheVariants.{Pend};
 ghost use Rattle.scp_wire.specs.declared.link.Inbound.TheVariants as inbound;
 ghost use Rattle.scp_threaded_node.specs.Acting.{act_on, acted, cannot, with_command, ActsAt, CanAct, IsActFault, IsRefusedFor, IsUnchanged};

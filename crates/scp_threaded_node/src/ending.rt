@@ -8,7 +8,7 @@ ghost use Rattle.scp_types.specs.declared.names.NodeId.{NodeId};
 ghost use Rattle.scp_quorum.specs.QuorumTree.{QuorumTree};
 ghost use Rattle.scp_wire.specs.declared.link.LinkItem.{LinkItem};
 ghost use Rattle.scp_ends.specs.Links.{LinkEnd};
-ghost use Rattle.scp_threaded_node.specs.declared.capacities.Capacities.{Capacities};
+ghost use Rattle.scp_types.specs.declared.capacities.Capacities.{Capacities};
 ghost use Rattle.scp_workers.specs.Working.{Holds};
 ghost use Rattle.scp_workers.specs.Carrying.{IsSameLink, IsCarried, HasCarried};
 ghost use Rattle.scp_shared_outbox.specs.Ends.{TakerView};

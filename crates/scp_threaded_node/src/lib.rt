@@ -12,14 +12,12 @@
 #![tactic(auto)]
 
 mod acting;
-mod capacities;
 mod ending;
 mod make;
 mod node;
 mod starting;
 
 pub use acting::{Act, act_at, flush, is_carried_at, tell};
-pub use capacities::Capacities;
 pub use ending::{Over, Stood, end};
 pub use make::{Lane, Parts, make_parts};
 pub use node::{Node, Running, Source, Tail, start};

@@ -8,11 +8,9 @@ ghost use Rattle.scp_workers.specs.Working.{AreUnused as HavePutNothing};
 ghost use Rattle.scp_workers.specs.Pending.{IsFor as PendsFor};
 ghost use Rattle.scp_workers.specs.Slot.{IsFor as JournalsFor};
 ghost use Rattle.scp_threaded_node.specs.Seats.{IsLane, AreLanes, AreUnused, AreStages, IsLocal, SendsAs};
-ghost use Rattle.scp_types.specs.Range.{IsInRange};
-ghost use Rattle.scp_threaded_node.specs.Sources.{HaveRoom};
+ghost use Rattle.scp_types.specs.Range.{IsInRange, AreInRange};
 ghost use Rattle.scp_threaded_node.specs.Outlets.{AllKeep, keeps_from};
 
-use crate::capacities::Capacities;
 use scp_driver::{Application, KvDriver};
 use scp_ends::{
     DecidedRx, DecidedTx, InboxRx, InboxTx, LinkRx, LinkTx, LocalTx, ReadyRx, ReadyTx, decided,
@@ -20,7 +18,7 @@ use scp_ends::{
 };
 use scp_quorum::{QuorumSet, SaneSet};
 use scp_shared_outbox::{Outlets, Putter};
-use scp_types::{Fault, NodeId};
+use scp_types::{Capacities, Fault, NodeId};
 use scp_workers::{
     ApplyWorker, PendWorker, ReaderWorker, SlotWorker, applier, pending, reader, slots,
 };
@@ -210,7 +208,7 @@ fn make_last<A: Application + Drop + Copy>(
     answers: Vec<Putter>,
 ) -> Result<(ReadyTx, SlotWorker<A>, ApplyWorker<A>), Fault>
     requires few { length peers.now ≤ PEER_LIMIT }
-    requires room { HaveRoom capacities }
+    requires room { AreInRange capacities }
     requires unused { HavePutNothing said.items × HavePutNothing answers.items }
     ensures ready { IfOk result (λ r. (r.0 ≡ fresh r.1.input.line 0) × (r.1.input.producers ≡ 1)) }
     ensures slot_of { IfOk result (λ r. JournalsFor me peers.now set.value r.1.first.ledger) }
@@ -239,7 +237,7 @@ fn make_stages<A: Application + Drop + Copy>(
     requires unused { HavePutNothing outlets.pend.items × HavePutNothing outlets.slot.items × HavePutNothing outlets.apply.items }
     requires few { length peers.now ≤ PEER_LIMIT }
     requires sane { IsSane set }
-    requires room { HaveRoom capacities }
+    requires room { AreInRange capacities }
     requires inbox { (rx.got ≡ []) × (rx.producers ≡ length peers.now + 1) × (rx.room ≡ capacities.inbox) }
     ensures stages { IfOk result (λ r. AreStages me set peers.now capacities r.0 r.1 r.2) }
     ensures inbox { IfOk result (λ r. r.0.input ≡ rx) }
@@ -276,7 +274,7 @@ fn make_lanes(
     keeps: bool,
 ) -> Result<(Vec<Lane>, LocalTx, InboxRx), Fault>
     requires few { length peers.now ≤ PEER_LIMIT }
-    requires room { HaveRoom capacities }
+    requires room { AreInRange capacities }
     ensures count { IfOk result (λ r. length r.0.items ≡ length peers.now) }
     ensures lanes { IfOk result (λ r. AreLanes me peers.now r.2.line capacities.link r.0.items × AreUnused r.0.items) }
     ensures keeps { IfOk result (λ r. AllKeep keeps r.0.items) }
@@ -308,7 +306,7 @@ pub fn make_parts<A: Application + Drop + Copy>(
     requires unused { HavePutNothing outlets.pend.items × HavePutNothing outlets.slot.items × HavePutNothing outlets.apply.items }
     requires few { length peers.now ≤ PEER_LIMIT }
     requires sane { IsSane set }
-    requires room { HaveRoom capacities }
+    requires room { AreInRange capacities }
     ensures count { IfOk result (λ p. length p.lanes.items ≡ length peers.now) }
     ensures lanes { IfOk result (λ p. AreLanes me peers.now p.pend.input.line capacities.link p.lanes.items) }
     ensures local { IfOk result (λ p. IsLocal peers.now p.pend p.local) }

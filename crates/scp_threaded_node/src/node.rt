@@ -3,7 +3,7 @@ ghost use Rattle.std.specs.Prelude.{◌≡◌, ◌<◌, ◌+◌, ◌∷◌, ◌+
 ghost use Rattle.std.specs.Thread.{IsSync};
 ghost use Rattle.scp_types.specs.declared.names.NodeId.{NodeId};
 ghost use Rattle.scp_quorum.specs.QuorumTree.{QuorumTree};
-ghost use Rattle.scp_threaded_node.specs.declared.capacities.Capacities.{Capacities};
+ghost use Rattle.scp_types.specs.declared.capacities.Capacities.{Capacities};
 ghost use Rattle.scp_wire.specs.declared.link.Inbound.{Inbound};
 ghost use Rattle.scp_ends.specs.Ends.{Line};
 ghost use Rattle.scp_threaded_node.specs.Outlets.{given_to, keeps_from, keeps_in, taker_of, taker_in};

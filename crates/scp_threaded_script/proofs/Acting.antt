@@ -9,8 +9,7 @@ use Rattle.scp_wire.specs.Shape.{never_open, goes}
 use Rattle.scp_ends.specs.Links.{LinkEnd, stands}
 use Rattle.scp_script.specs.declared.command.Command.{Command}
 use Rattle.scp_script.specs.declared.command.Command.TheVariants as script
-use Rattle.scp_script.specs.Nodes.{id_of, peers_of, set_at}
-use Rattle.scp_threaded_script.specs.Rooms.{capacities_in}
+use Rattle.scp_script.specs.Nodes.{id_of, peers_of, set_at, capacities_in}
 use Rattle.scp_script.specs.Script.{is_link, lives, node_count}
 use Rattle.scp_threaded_node.specs.declared.acting.Act.{Act}
 use Rattle.scp_threaded_node.specs.declared.acting.Act.TheVariants.{Open, Close, Send}

@@ -8,8 +8,7 @@ use Rattle.scp_shared_outbox.specs.declared.outlets.Outlets.{Outlets}
 use Rattle.scp_shared_outbox.specs.Places.{Each}
 use Rattle.scp_shared_outbox.specs.Table.{AreMade, AreOutletsOf, HavePutNothing, IsTakerOf}
 use Rattle.scp_script.specs.declared.command.Command.{Command}
-use Rattle.scp_script.specs.Nodes.{id_of, peers_of, set_at}
-use Rattle.scp_threaded_script.specs.Rooms.{capacities_in}
+use Rattle.scp_script.specs.Nodes.{id_of, peers_of, set_at, capacities_in}
 use Rattle.scp_script.specs.Script.{node_count}
 use Rattle.scp_threaded_node.specs.Kv.{Node}
 use Rattle.scp_threaded_node.specs.Outlets.{GivenEnds, given_to}

@@ -1,6 +1,5 @@
 pub use Rattle.scp_threaded_node.specs.scp_gather
 pub use Rattle.scp_threaded_node
-pub mod Rooms
 pub mod Lines
 pub mod Travels
 pub mod Reported

@@ -9,8 +9,7 @@ use Rattle.scp_types.specs.declared.fault.Stage.TheVariants.{Reader, Pend}
 pub use Rattle.scp_shared_outbox.specs.Places.{IsOneOf, AreTwoOf}
 use Rattle.scp_threaded_node.specs.scp_gather.specs.Kv.{NodeReport, Left}
 use Rattle.scp_script.specs.declared.command.Command.{Command}
-use Rattle.scp_script.specs.Nodes.{id_of, peers_of, set_at}
-use Rattle.scp_threaded_script.specs.Rooms.{capacities_in}
+use Rattle.scp_script.specs.Nodes.{id_of, peers_of, set_at, capacities_in}
 use Rattle.scp_script.specs.Script.{node_count, lives, is_open}
 use Rattle.scp_threaded_node.specs.declared.ending.Stood.{Stood}
 use Rattle.scp_threaded_node.specs.Kv.{Node, NodeEnd, IsEnded}

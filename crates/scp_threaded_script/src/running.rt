@@ -4,12 +4,12 @@ ghost use Rattle.std.specs.Option.{option_or};
 ghost use Rattle.std.specs.Result.{result_err};
 ghost use Rattle.scp_script.specs.declared.command.Command.{Command};
 ghost use Rattle.scp_script.specs.Script.{AreAdmitted, node_count};
-ghost use Rattle.scp_script.specs.Nodes.{NamesNodes, id_of, peers_of, set_at};
-ghost use Rattle.scp_threaded_script.specs.Rooms.{capacities_in};
+ghost use Rattle.scp_script.specs.Nodes.{NamesNodes, id_of, peers_of, set_at, capacities_in};
 ghost use Rattle.scp_threaded_node.specs.scp_gather.specs.Kv.{NodeReport};
 ghost use Rattle.scp_threaded_node.specs.Seats.{Runs, AreDriven};
-ghost use Rattle.scp_threaded_node.specs.Sources.{AreSources, HaveRoom, taker_from};
+ghost use Rattle.scp_threaded_node.specs.Sources.{AreSources, taker_from};
 ghost use Rattle.std.specs.Global.{Vec};
+ghost use Rattle.scp_types.specs.Range.{AreInRange};
 ghost use Rattle.scp_types.specs.declared.limits.TheConstants.{NODE_LIMIT, PEER_LIMIT};
 ghost use Rattle.scp_threaded_script.specs.Lines.{is_driven, driven_to};
 ghost use Rattle.scp_threaded_script.specs.inside.Outlets.{AreSameMarkers, AreTakenFrom, IsKeeping, AreKeeping, IsSeated, AreSeated, all_given};
@@ -33,12 +33,10 @@ use crate::outboxes::{all_losses, is_driven, stood_of, stop_all};
 use scp_driver::KvDriver;
 use scp_ends::Gate;
 use scp_gather::{what_is_carried_is_sent_out, what_is_read_is_the_senders_own};
-use scp_script::{Command, count_of_nodes, id_from, peers_of_node, set_of_node};
+use scp_script::{Command, capacities_of, count_of_nodes, id_from, peers_of_node, set_of_node};
 use scp_shared_outbox::{Made, Marker, Outlets, Taker, link_of, make_all, peer_at, take_all_back};
 use scp_theorem::what_is_handed_out_may_be_sent;
-use scp_threaded_node::{
-    Capacities, Node, NodeReport, Over, Source, Stood, end, make_parts, start,
-};
+use scp_threaded_node::{Node, NodeReport, Over, Source, Stood, end, make_parts, start};
 use scp_types::Fault;
 use std::alloc::{AllocError, Global};
 use std::sync::Wait;
@@ -59,19 +57,6 @@ impl From<Fault> for NodeFault {
 
     fn from(fault: Fault) -> NodeFault {
         NodeFault { fault, node: 0 }
-    }
-}
-
-/// The capacities of the channels of each node of a script.
-fn capacities_of(commands: &[Command]) -> Capacities
-    ensures { result ≡ capacities_in commands.now }
-{
-    let said = scp_script::capacities_of(commands);
-    Capacities {
-        link: said.link,
-        inbox: said.inbox,
-        ready: said.ready,
-        decided: said.decided,
     }
 }
 
@@ -128,7 +113,7 @@ fn start_node<'s, E, R: Threads + Wait + Sync, G: Gate + Sync>(
 ) -> Result<Node, Fault>
     requires names { All NamesNodes commands.now }
     requires admitted { AreAdmitted [] commands.now }
-    requires room { HaveRoom (capacities_in commands.now) }
+    requires room { AreInRange (capacities_in commands.now) }
     requires few { count ≤ NODE_LIMIT }
     requires unused { HavePutNothing outlets.pend.items × HavePutNothing outlets.slot.items × HavePutNothing outlets.apply.items }
     requires takers { (length takers.items + 1 ≡ count) × Each (λ i t. t.gave ≡ []) takers.items }
@@ -170,7 +155,7 @@ fn start_all<'s, E, R: Threads + Wait + Sync, G: Gate + Sync>(
 ) -> Result<(), Fault>
     requires names { All NamesNodes commands.now }
     requires admitted { AreAdmitted [] commands.now }
-    requires room { HaveRoom (capacities_in commands.now) }
+    requires room { AreInRange (capacities_in commands.now) }
     requires made { (markers : List (Vec MarkerView)) × AreMade (node_count commands.now) outlets.items markers takers.items }
     requires none { nodes.old.items ≡ [] }
     ensures few { (length nodes.new.items ≤ node_count commands.now) × (length nodes.new.items ≤ NODE_LIMIT) }
@@ -384,7 +369,7 @@ fn start_and_act<'s, E, R: Threads + Wait + Sync, G: Gate + Sync>(
     requires no_wait { gave_up.old.items ≡ [] }
     requires names { All NamesNodes commands.now }
     requires admitted { AreAdmitted [] commands.now }
-    requires room { HaveRoom (capacities_in commands.now) }
+    requires room { AreInRange (capacities_in commands.now) }
     requires made { AreMade (node_count commands.now) outlets.items markers.old.items takers.items }
     requires none { nodes.old.items ≡ [] }
     ensures few { length nodes.new.items ≤ node_count commands.now }
@@ -457,7 +442,7 @@ fn run_in<'s, E, R: Threads + Wait + Sync, G: Gate + Sync>(
 ) -> Result<Ran, NodeFault>
     requires names { All NamesNodes commands.now }
     requires admitted { AreAdmitted [] commands.now }
-    requires room { HaveRoom (capacities_in commands.now) }
+    requires room { AreInRange (capacities_in commands.now) }
     requires made { AreMade (node_count commands.now) made.outlets.items made.markers.items made.takers.items }
     requires stood { AllStand commands.now stood.now }
     ensures reported { IfOk result (λ ran. AreNodesReported commands.now ran.reports.items) }
@@ -518,7 +503,7 @@ fn run_scoped<R: Threads + Wait + Sync, G: Gate + Sync>(
 ) -> Result<Ran, NodeFault>
     requires names { All NamesNodes commands.now }
     requires admitted { AreAdmitted [] commands.now }
-    requires room { HaveRoom (capacities_in commands.now) }
+    requires room { AreInRange (capacities_in commands.now) }
     requires made { AreMade (node_count commands.now) made.outlets.items made.markers.items made.takers.items }
     requires stood { AllStand commands.now stood.now }
     ensures reported { IfOk result (λ ran. AreNodesReported commands.now ran.reports.items) }
@@ -531,7 +516,7 @@ fn run_scoped<R: Threads + Wait + Sync, G: Gate + Sync>(
         thread::scope_env(),
         rt,
         move |scope| -> Result<Ran, NodeFault>
-            requires { All NamesNodes commands.now × AreAdmitted [] commands.now × HaveRoom (capacities_in commands.now) × AreMade (node_count commands.now) made.outlets.items made.markers.items made.takers.items × AllStand commands.now stood.now }
+            requires { All NamesNodes commands.now × AreAdmitted [] commands.now × AreInRange (capacities_in commands.now) × AreMade (node_count commands.now) made.outlets.items made.markers.items made.takers.items × AllStand commands.now stood.now }
             ensures { IfOk result (λ ran. AreNodesReported commands.entry.now ran.reports.items) × IfOk result (λ ran. AreWaits commands.entry.now 0 ran.gave_up.items) × IfOk result (λ ran. length ran.losses.items ≡ node_count commands.entry.now) × IfErr result (IsGivenUp commands.entry.now) × IfOk result (λ ran. AreAllKept keeps ran.reports.items) }
         { run_in(scope, rt, gate, alloc, made, stood, commands, keeps) },
     )
@@ -557,7 +542,7 @@ pub fn run_lines<R: Threads + Wait + Sync, G: Gate + Sync>(
 ) -> Result<Ran, NodeFault>
     requires names { All NamesNodes commands.now }
     requires admitted { AreAdmitted [] commands.now }
-    requires room { HaveRoom (capacities_in commands.now) }
+    requires room { AreInRange (capacities_in commands.now) }
     ensures reported { IfOk result (λ ran. AreNodesReported commands.now ran.reports.items) }
     ensures waits { IfOk result (λ ran. AreWaits commands.now 0 ran.gave_up.items) }
     ensures losses { IfOk result (λ ran. length ran.losses.items ≡ node_count commands.now) }

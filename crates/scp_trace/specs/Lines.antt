@@ -5,7 +5,7 @@ use Rattle.scp_types.specs.declared.fault.Fault.{Fault}
 use Rattle.scp_types.specs.declared.fault.Fault.TheVariants.{Malformed}
 use Rattle.scp_xdr.specs.Kind.{Values}
 use Rattle.scp_wire.specs.Message.{message_kind, message_of, message_reading}
-use Rattle.scp_script.specs.declared.command.Capacities.{Capacities}
+use Rattle.scp_types.specs.declared.capacities.Capacities.{Capacities}
 use Rattle.scp_script.specs.declared.command.Command.{Command}
 use Rattle.scp_script.specs.declared.command.Command.TheVariants.{Caps, Nodes, Set, Open, Close, Send, Propose, Round, Timer, Tick, Ask, Settle, Wait, Report}
 use Rattle.scp_text.specs.Sets.{set_text}

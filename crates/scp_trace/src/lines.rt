@@ -10,11 +10,11 @@ ghost use Rattle.scp_trace.specs.Traced.{line_part};
 
 use crate::depth::Depth;
 use scp_quorum::QuorumSet;
-use scp_script::{Capacities, Command};
+use scp_script::Command;
 use scp_stand_slot::Names;
 use scp_text::Term;
 use scp_trace_text::{write_message, write_one};
-use scp_types::{Fault, Value};
+use scp_types::{Capacities, Fault, Value};
 use scp_wire::{Message, decode};
 
 /// Adds a word with two numbers after it.

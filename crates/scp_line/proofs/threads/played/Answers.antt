@@ -4,11 +4,12 @@ use Rattle.scp_threaded_script.specs.scp_gather.specs.Kv.{NodeReport}
 use Rattle.scp_threaded_script.specs.Reported.{AreNodesReported}
 use Rattle.scp_script.specs.Script.{commands_in}
 use Rattle.scp_line.proofs.Headlines.{are_gathered_headlined}
-use Rattle.scp_line.proofs.Threaded.{threads_have_room, are_gathered_reports, given_up_not_bad}
+use Rattle.scp_line.proofs.Fits.{script_fits}
+use Rattle.scp_line.proofs.Threaded.{are_gathered_reports, given_up_not_bad}
 use Rattle.scp_line.proofs.threads.played.Goals as goal
 
 pub run_lines-requires-clause-room : goal.run_lines-requires-clause-room
-run_lines-requires-clause-room g c = λ lives outlive. threads_have_room c.args.text.now c.as_slice-commands.result.now (c.as_slice-commands.ensures.value ∙ c.in_ok-script.ensures.commands)
+run_lines-requires-clause-room g c = λ lives outlive. script_fits c.args.text.now c.as_slice-commands.result.now (c.as_slice-commands.ensures.value ∙ c.in_ok-script.ensures.commands)
 
 pub left_reports-requires-clause-count : goal.left_reports-requires-clause-count
 left_reports-requires-clause-count g c = ap (λ (l : List NodeReport). length l) c.as_slice-reports.ensures.value ∙ c.in_ok-ran.ensures.reported.count

@@ -12,8 +12,7 @@ use Rattle.scp_threaded_node.specs.Faults.{IsNodeEnd, fault_of}
 use Rattle.scp_threaded_script.proofs.Ending.{ended_more, nil_of, none_ended, told_refused}
 use Rattle.std.proofs.lemmas.List.{length-append, length-map}
 use Rattle.scp_script.specs.Script.{node_count}
-use Rattle.scp_script.specs.Nodes.{id_of, peers_of, set_at}
-use Rattle.scp_threaded_script.specs.Rooms.{capacities_in}
+use Rattle.scp_script.specs.Nodes.{id_of, peers_of, set_at, capacities_in}
 use Rattle.scp_threaded_script.specs.Lines.{driven_to, items_to}
 use Rattle.scp_threaded_script.proofs.Nodes.{runs_front, runs_last, done_front, last_sent, last_over, over_more, over_none, given_more, stands_at, lanes_fit}
 use Rattle.scp_threaded_node.specs.Outlets.{given_to}

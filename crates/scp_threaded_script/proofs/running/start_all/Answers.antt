@@ -3,8 +3,7 @@ use Rattle.std.proofs.lemmas.List.{length-append, nil_from_length}
 use Rattle.scp_shared_outbox.specs.Ends.{TakerView}
 use Rattle.scp_shared_outbox.specs.declared.outlets.Outlets.{Outlets}
 use Rattle.scp_shared_outbox.specs.Table.{AreOutletsOf}
-use Rattle.scp_script.specs.Nodes.{id_of, peers_of, set_at}
-use Rattle.scp_threaded_script.specs.Rooms.{capacities_in}
+use Rattle.scp_script.specs.Nodes.{id_of, peers_of, set_at, capacities_in}
 use Rattle.scp_threaded_node.specs.Kv.{Node}
 use Rattle.scp_threaded_node.specs.Outlets.{given_to}
 use Rattle.scp_threaded_node.specs.Seats.{Runs}

@@ -1,9 +1,8 @@
 use Rattle.std.proofs.Common.{◌≡◌, ◌∙◌, ap, subst, length, Result, Ok, Err, arith}
 use Rattle.std.specs.Prelude.{IfOk}
 use Rattle.std.proofs.lemmas.Result.{err_from_is_err_and}
-use Rattle.scp_threaded_node.specs.declared.capacities.Capacities.{Capacities}
-use Rattle.scp_script.specs.Nodes.{id_of, peers_of, set_at}
-use Rattle.scp_threaded_script.specs.Rooms.{capacities_in}
+use Rattle.scp_types.specs.declared.capacities.Capacities.{Capacities}
+use Rattle.scp_script.specs.Nodes.{id_of, peers_of, set_at, capacities_in}
 use Rattle.scp_threaded_node.specs.Seats.{AreLanes, IsLocal, AreStages}
 use Rattle.scp_types.specs.declared.fault.Fault.{Fault}
 use Rattle.scp_threaded_node.specs.Kv.{Node}
