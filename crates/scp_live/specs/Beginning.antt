@@ -36,7 +36,7 @@ config_in settings = record {
   me = settings.node.id;
   set = settings.set;
   peers = map (λ (peer : Identity). peer.id) settings.peers.items;
-  capacities = record { link = settings.capacities.link; inbox = settings.capacities.inbox; ready = settings.capacities.ready; decided = settings.capacities.decided };
+  capacities = settings.capacities;
 }
 
 -- A node with these settings that has received no event yet.

@@ -7,7 +7,7 @@ ghost use Rattle.scp_live.specs.Failing.{IsConfigFault};
 ghost use Rattle.scp_live.specs.Living.{IsLive};
 
 use crate::live::Live;
-use scp_core::{Capacities, Config, Peers};
+use scp_core::{Config, Peers};
 use scp_live_config::{ConfigFault, Named, Settings, read_config};
 use scp_types::{Fault, Hash};
 use std::alloc::{AllocError, Global};
@@ -35,17 +35,11 @@ fn config_of(alloc: Global, settings: &Settings) -> Result<Config, Fault>
     ensures is { IfOk result (λ config. config ≡ config_in settings.now) }
     ensures only_memory { IsOkUnless result Fault.NoMemory }
 {
-    let capacities = settings.capacities;
     Ok(Config {
         me: settings.node.id(),
         set: settings.set.set().copy()?,
         peers: Peers::new(settings.peer_ids(alloc)?),
-        capacities: Capacities {
-            link: capacities.link,
-            inbox: capacities.inbox,
-            ready: capacities.ready,
-            decided: capacities.decided,
-        },
+        capacities: settings.capacities,
     })
 }
 

@@ -8,7 +8,7 @@ use Rattle.scp_quorum.specs.QuorumKind.{set_kind, set_value, set_spelling, quoru
 use Rattle.scp_live_config.specs.Names.{Identity}
 use Rattle.scp_live_config.specs.Form.{identity_form, identities_form, capacities_form, form, IsFormed, OneFormOneMeaning}
 use Rattle.scp_live_config.specs.declared.settings.Settings.{Settings}
-use Rattle.scp_live_config.specs.declared.settings.Capacities.{Capacities}
+use Rattle.scp_types.specs.declared.capacities.Capacities.{Capacities}
 
 -- no spelling begins another
 abbrev pub NoneBegins : Type 0

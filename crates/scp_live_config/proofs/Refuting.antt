@@ -14,7 +14,7 @@ use Rattle.scp_live_config.specs.Sets.{SaysLevel, SayInner, SaysSet, validators_
 use Rattle.scp_live_config.specs.Config.{IsConfigOf, SaysNames, SaysQueues, node_in, table_at, capacity_said}
 use Rattle.scp_live_config.specs.Wrong.{IsStray, HaveOneId, IsPeerAt, IsWrongHere, IsWrongInside, IsWrongSet, SaysWrongSet, IsWrong, queue_key}
 use Rattle.scp_live_config.specs.declared.settings.Settings.{Settings}
-use Rattle.scp_live_config.specs.declared.settings.Capacities.{Capacities}
+use Rattle.scp_types.specs.declared.capacities.Capacities.{Capacities}
 use Rattle.scp_live_config.specs.declared.wrong.Section.{Section}
 use Rattle.scp_live_config.specs.declared.wrong.Section.TheVariants as section
 use Rattle.scp_live_config.specs.declared.wrong.Queue.{Queue}

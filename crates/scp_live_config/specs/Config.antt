@@ -7,7 +7,7 @@ use Rattle.scp_quorum.specs.Sane.{IsSane}
 use Rattle.scp_live_config.specs.Names.{Identity, AreNames, HasOnly, NoTwo, values_of, name_said, number_to}
 use Rattle.scp_live_config.specs.Sets.{SaysSet}
 use Rattle.scp_live_config.specs.declared.settings.Settings.{Settings}
-use Rattle.scp_live_config.specs.declared.settings.Capacities.{Capacities}
+use Rattle.scp_types.specs.declared.capacities.Capacities.{Capacities}
 use Rattle.scp_live_config.specs.declared.wrong.Section.TheVariants.{Whole, Queues}
 
 -- The table at a key, if there is one.

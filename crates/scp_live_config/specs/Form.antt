@@ -5,7 +5,7 @@ use Rattle.scp_xdr.specs.Kind.{long_word, Fits}
 use Rattle.scp_quorum.specs.QuorumKind.{set_kind, set_value, set_spelling}
 use Rattle.scp_live_config.specs.Names.{Identity}
 use Rattle.scp_live_config.specs.declared.settings.Settings.{Settings}
-use Rattle.scp_live_config.specs.declared.settings.Capacities.{Capacities}
+use Rattle.scp_types.specs.declared.capacities.Capacities.{Capacities}
 
 -- A name and an id: the length of the name as 8 bytes, the name, and the 32 bytes of the id.
 abbrev pub identity_form : Identity → List ℕ

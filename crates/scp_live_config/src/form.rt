@@ -5,9 +5,9 @@ ghost use Rattle.scp_xdr.specs.Kind.{long_word};
 ghost use Rattle.scp_quorum.specs.QuorumKind.{set_spelling};
 ghost use Rattle.scp_live_config.specs.Form.{identity_form, identities_form, capacities_form, form};
 
-use crate::settings::{Capacities, Named, Settings};
+use crate::settings::{Named, Settings};
 use scp_quorum::SaneSet;
-use scp_types::Hash;
+use scp_types::{Capacities, Hash};
 use sha2::{Digest, Sha256};
 use std::alloc::{AllocError, Global};
 

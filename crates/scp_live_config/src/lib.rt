@@ -25,6 +25,6 @@ mod wrong;
 pub use fault::ConfigFault;
 pub use laws::{one_form_has_one_meaning, what_is_wrong_says_nothing};
 pub use read::read_config;
-pub use settings::{Capacities, Named, Settings};
+pub use settings::{Named, Settings};
 pub use text::write_fault;
 pub use wrong::{Queue, Section, SetWrong, Wrong};

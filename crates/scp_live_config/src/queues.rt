@@ -8,9 +8,9 @@ ghost use Rattle.scp_live_config.specs.declared.wrong.Section.TheVariants as sec
 ghost use Rattle.scp_live_config.specs.inside.Faults.{Tells, IsWrongQueue};
 
 use crate::fault::ConfigFault;
-use crate::settings::Capacities;
 use crate::table::{find, number_to, stray};
 use crate::wrong::{Queue, Section, Wrong};
+use scp_types::Capacities;
 use std::alloc::Global;
 use toml::{Table, Value};
 

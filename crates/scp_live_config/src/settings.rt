@@ -2,7 +2,7 @@
 ghost use Rattle.std.specs.Prelude.{◌≡◌, IfOk, string_bytes};
 
 use scp_quorum::SaneSet;
-use scp_types::NodeId;
+use scp_types::{Capacities, NodeId};
 use std::alloc::{AllocError, Global};
 use std::marker::Model;
 
@@ -51,15 +51,6 @@ impl Named {
         let name = String::from_str(alloc, self.name.as_str())?;
         Ok(Named { name, id: self.id })
     }
-}
-
-/// The most items that each queue of a node holds. Each is from 1 to 1,024.
-#[derive(Clone, Copy, Debug, PartialEq, Eq)]
-pub struct Capacities {
-    pub link: u16,
-    pub inbox: u16,
-    pub ready: u16,
-    pub decided: u16,
 }
 
 /// The settings that a configuration gives.
