@@ -20,7 +20,6 @@ mod links;
 mod links_now;
 mod looking;
 mod named;
-mod newest;
 mod run;
 mod slots;
 mod times;

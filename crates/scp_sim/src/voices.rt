@@ -1,9 +1,9 @@
 //! What is sent: what nodes say, what they send once more, and what a flood consists of.
 
 use crate::due::Due;
-use crate::newest::newest;
 use crate::world::{FLOOD, SimFault, World};
 use rand_core::Rng;
+use scp_again::messages_again;
 use scp_core::{Event, Reply};
 use scp_sim_options::is_marked;
 use scp_text::message_of;
@@ -11,7 +11,7 @@ use scp_turn::link_of;
 use scp_wire::{Bytes, encode};
 
 impl<'a> World<'a> {
-    /// A node sends its newest messages once more to another node.
+    /// A node sends to another node once more what a lost connection may have lost.
     pub fn say_again(&mut self, from: u8, to: u8) -> Result<(), SimFault> {
         if is_marked(&self.plan.silent, from) || !self.links.get(from, to).is_open {
             return Ok(());
@@ -19,12 +19,12 @@ impl<'a> World<'a> {
         let Some(place) = usize::from(from).checked_sub(1) else {
             return Ok(());
         };
-        let said = match self.network.nodes().get(place) {
-            Some(node) => newest(self.alloc, node, link_of(to, from))?,
+        let messages = match self.network.nodes().get(place) {
+            Some(node) => messages_again(self.alloc, node.ledger(), link_of(to, from))?,
             None => return Ok(()),
         };
-        for bytes in said {
-            self.post(from, to, bytes)?;
+        for message in messages.as_slice() {
+            self.post(from, to, Bytes::new(encode(self.alloc, message)?))?;
         }
         Ok(())
     }

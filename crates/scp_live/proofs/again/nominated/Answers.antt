@@ -1,7 +1,0 @@
-use Rattle.std.proofs.Common.{◌∙◌, ap}
-use Rattle.scp_vote.specs.Board.{Seen}
-use Rattle.scp_nominate.specs.Nomination.{Nomination}
-use Rattle.scp_live.proofs.again.nominated.Goals as goal
-
-pub returns : goal.returns
-returns c = c.statement_of.ensures ∙ c.own.ensures.pledges ∙ ap (λ (b : Seen). b.statement b.me) (c.board.ensures.view ∙ ap (λ (n : Nomination). n.board) c.nominator.ensures.view)
