@@ -22,3 +22,5 @@ pub mod Telling
 pub mod Fit
 pub mod Going
 pub mod Coming
+pub mod Driving
+pub mod Serving

@@ -1,5 +1,6 @@
 -- What the stages of a node hand out for its links (this project's profile).
-use Rattle.std.specs.Prelude.{◌≡◌, ℕ, List, [], ◌∷◌, ◌++◌, Option, Some, None, flat_map}
+use Rattle.std.specs.Prelude.{◌≡◌, ℕ, false, List, [], ◌∷◌, ◌++◌, Option, Some, None, flat_map}
+use Rattle.scp_driver.specs.Driver.{Says}
 use Rattle.scp_wire.specs.declared.link.Inbound.{Inbound}
 use Rattle.scp_wire.specs.declared.message.Message.{Message}
 use Rattle.scp_wire.specs.declared.message.Message.TheVariants.{Envelope}
@@ -8,8 +9,11 @@ use Rattle.scp_pending.specs.Rules.{Settled, rules, reply}
 use Rattle.scp_apply.specs.scp_ledger.specs.declared.took.Onward.{Onward}
 use Rattle.scp_apply.specs.scp_ledger.specs.declared.took.Outgoing.{Outgoing}
 use Rattle.scp_apply.specs.scp_ledger.specs.declared.took.Outgoing.TheVariants.{ToAll, To}
+use Rattle.scp_apply.specs.scp_ledger.specs.By.{TakesBy, TellsBy, RunsBy}
+use Rattle.scp_apply.specs.scp_ledger.specs.Ledger.{IsLedger}
 use Rattle.scp_apply.specs.scp_ledger.specs.Runs.{Taking}
-use Rattle.scp_apply.specs.Applier.{ApplierView, Takes}
+use Rattle.scp_apply.specs.scp_ledger.specs.Seen.{LedgerView}
+use Rattle.scp_apply.specs.Applier.{ApplierView, IsApplier, IsRunning, Takes}
 
 -- ---- for each link
 
@@ -42,7 +46,31 @@ out_by t = t.gave.outgoing
 abbrev pub outs_of : List Taking → List Outgoing
 outs_of takes = flat_map out_by takes
 
--- an applier took these, one after another, handed its answers out, and is the new one then
-abbrev pub Answers : ApplierView → List Onward → List Outgoing → ApplierView → Type 0
-Answers old [] out new = (out ≡ []) × (new ≡ old)
-Answers old (x ∷ xs) out new = (answer : Option (ℕ × Message)) × (between : ApplierView) × Takes old x answer between × (rest : List Outgoing) × (out ≡ out_of answer ++ rest) × Answers between xs rest new
+module _ {D : Type 0} (says : Says D) where
+  -- A ledger took this thing, gave this, reported this of it if it is a command, and is the new one then. The new one runs, so its lowest slot is
+  -- the first without a decision.
+  pub record Serves (old : LedgerView D) (t : Taking) (new : LedgerView D) : Type 0 where
+    pub takes : TakesBy says old t.thing t.gave new
+    pub tells : TellsBy says old t.thing t.gave
+    pub known : IsLedger new
+    pub running : RunsBy says new
+
+  -- each thing was taken by the ledger that the one before it left
+  abbrev pub ServesEach : LedgerView D → List Taking → LedgerView D → Type 0
+  ServesEach old [] new = new ≡ old
+  ServesEach old (t ∷ takes) new = (between : LedgerView D) × Serves old t between × ServesEach between takes new
+
+-- an applier of this first slot that took nothing
+abbrev pub nothing_applied : ℕ → ApplierView
+nothing_applied first = record { first = first; failed = false; applied = []; buffer = [] }
+
+-- An applier took this thing, gave this answer, and is the new one then. The new one runs, so the slot that is next isn't buffered.
+pub record Answers (old : ApplierView) (x : Onward) (answer : Option (ℕ × Message)) (new : ApplierView) : Type 0 where
+  pub takes : Takes old x answer new
+  pub known : IsApplier new
+  pub running : IsRunning new
+
+-- each thing was taken by the applier that the one before it left; these are the answers, in order: to each thing one, or none
+abbrev pub AnswersEach : ApplierView → List Onward → List Outgoing → ApplierView → Type 0
+AnswersEach old [] out new = (out ≡ []) × (new ≡ old)
+AnswersEach old (x ∷ xs) out new = (answer : Option (ℕ × Message)) × (between : ApplierView) × Answers old x answer between × (rest : List Outgoing) × (out ≡ out_of answer ++ rest) × AnswersEach between xs rest new

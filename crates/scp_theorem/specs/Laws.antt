@@ -1,42 +1,39 @@
 -- What a node's stages hand out may be sent.
-use Rattle.std.specs.Prelude.{◌≡◌, ℕ, List, All, Contains, flat_map, None}
-use Rattle.std.specs.List.{AllByRecursion}
+use Rattle.std.specs.Prelude.{◌≡◌, ℕ, List, All, None}
 use Rattle.scp_driver.specs.Driver.{Says}
-use Rattle.scp_wire.specs.declared.link.Command.{Command}
 use Rattle.scp_wire.specs.declared.message.Message.{Message}
 use Rattle.scp_outbox.specs.Sent.{statement_of, AreNewer}
-use Rattle.scp_pending.specs.Endings.{commands_in, commands_of}
-use Rattle.scp_apply.specs.scp_ledger.specs.declared.took.Onward.{Onward}
 use Rattle.scp_apply.specs.scp_ledger.specs.declared.took.Outgoing.{Outgoing}
-use Rattle.scp_apply.specs.scp_ledger.specs.By.{LeadsBy}
-use Rattle.scp_apply.specs.scp_ledger.specs.Journals.{request_by}
-use Rattle.scp_apply.specs.scp_ledger.specs.Seen.{LedgerView}
-use Rattle.scp_apply.specs.scp_ledger.specs.Onwards.{requests_on}
-use Rattle.scp_apply.specs.scp_ledger.specs.Runs.{Taking, things, nothing_taken}
-use Rattle.scp_apply.specs.Applier.{ApplierView}
-use Rattle.scp_theorem.specs.Fates.{IsOfLink, conn_of}
-use Rattle.scp_theorem.specs.Grounds.{Grounds, MaySend, start_of}
-use Rattle.scp_theorem.specs.Handed.{handed_by, replies_from, outs_of, Answers}
+use Rattle.scp_apply.specs.scp_ledger.specs.Runs.{Taking, things, onwards_of, nothing_taken}
+use Rattle.scp_theorem.specs.Account.{Account, Ran}
+use Rattle.scp_theorem.specs.Grounds.{Grounds, MaySend}
+use Rattle.scp_theorem.specs.Handed.{handed_by, replies_from, outs_of, ServesEach, nothing_applied, AnswersEach}
+use Rattle.scp_theorem.specs.Kept.{start_of}
+
+module _ {D : Type 0} where
+  -- who the node is, what its pending stage took, and what its slot stage and its applier made of that
+  abbrev pub grounds_in : Account D → Grounds
+  grounds_in a = record {
+    who = record { me = a.me; peers = a.peers; set = a.set };
+    taken = a.came;
+    journal = a.ledger.journal;
+    decisions = a.ledger.decisions;
+    applied = a.applier.applied;
+  }
 
 module _ {D : Type 0} (says : Says D) where
-  -- What the three stages of a node with these grounds handed out. The pending stage: its replies to all that came. The slot stage: what its ledger
-  -- gave with each thing taken; each command among these came. The applier: its answers to what it took; each request there is in the journal.
-  pub record AreHandedOut (g : Grounds) (replies said answers : List Outgoing) : Type 0 where
-    pub replies_are : replies ≡ replies_from (start_of g.who) g.taken
-    pub ledger : LedgerView D
+  -- Exactly what the three stages of a node handed out, each list in order. Each stage took, in order, what the one before it gave, except what
+  -- is still between them, and began with nothing. The pending stage: its replies to all that came. The slot stage: what its ledger gave with each
+  -- thing that it took. The applier: its answers to each thing that it took.
+  pub record AreHandedOut (a : Account D) (replies said answers : List Outgoing) : Type 0 where
+    pub ran : Ran says.level says.extracted says.combined says.place a
+    pub replies_are : replies ≡ replies_from (start_of a) a.came
     pub takes : List Taking
-    pub leads : LeadsBy says (nothing_taken g.who.me g.who.set ledger.driver g.who.peers ledger.first) takes ledger
+    pub took_are : things takes ≡ ran.took
+    pub onwards_are : onwards_of takes ≡ ran.onwards
+    pub served : ServesEach says (nothing_taken a.me a.set a.ledger.driver a.peers a.ledger.first) takes a.ledger
     pub said_are : said ≡ outs_of takes
-    pub commands : (command : Command) → Contains (commands_of (things takes)) command → Contains (commands_in g.taken) command
-    pub journal_is : g.journal ≡ ledger.journal
-    pub of_links : AllByRecursion (λ fate. IsOfLink g.who.me g.who.peers (conn_of fate)) g.journal
-    pub decisions_are : g.decisions ≡ ledger.decisions
-    pub first : ApplierView
-    pub applier : ApplierView
-    pub took : List Onward
-    pub answered : Answers first took answers applier
-    pub requests : (request : Onward) → Contains (requests_on took) request → Contains (flat_map (request_by g.who.peers) g.journal) request
-    pub applied_is : g.applied ≡ applier.applied
+    pub answered : AnswersEach (nothing_applied a.ledger.first) ran.applied answers a.applier
 
 -- the message may be sent over the link, and is no statement
 abbrev pub MayAnswer : Grounds → ℕ → Message → Type 0
@@ -53,4 +50,4 @@ pub record MayGo (g : Grounds) (link : ℕ) (replies said answers : List Message
 module _ {D : Type 0} (says : Says D) where
   -- all that a node's stages hand out is so
   abbrev pub HandedOutMayGo : Type 0
-  HandedOutMayGo = (g : Grounds) (replies said answers : List Outgoing) → AreHandedOut says g replies said answers → (link : ℕ) → MayGo g link (handed_by replies link) (handed_by said link) (handed_by answers link)
+  HandedOutMayGo = (a : Account D) (replies said answers : List Outgoing) → AreHandedOut says a replies said answers → (link : ℕ) → MayGo (grounds_in a) link (handed_by replies link) (handed_by said link) (handed_by answers link)
