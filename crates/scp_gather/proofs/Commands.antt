@@ -18,7 +18,6 @@ use Rattle.scp_workers.specs.Slot.{IsFor as JournalsFor, HaveFates}
 use Rattle.scp_gather.specs.Left.{Left}
 use Rattle.scp_gather.specs.Node.{IsNode, EndWell}
 use Rattle.scp_gather.specs.Gathered.{is_command, Gathered}
-use Rattle.scp_gather.specs.Report.{AreFatesOf}
 use Rattle.scp_gather.proofs.Hearing.{sole_is}
 use Rattle.scp_gather.proofs.Joining.{node_pends}
 
@@ -47,7 +46,7 @@ module _ {D : Type 0} (says : Says D) where
         ∙ passes me peers (values e.pend.input.got) w.given.sent e.pend.stage (node_pends says me set peers e n w)
 
     -- and those that were sent
-    passed : commands_of (values e.slot.input.got) ≡ commands_in e.local.sent
+    pub passed : commands_of (values e.slot.input.got) ≡ commands_in e.local.sent
     passed =
         came
         ∙ sym (commands_alone (values e.pend.input.got))
@@ -66,10 +65,3 @@ module _ {D : Type 0} (says : Says D) where
         subst (λ (q : QuorumTree). HaveFates says me q peers took w.onward.sent out fates e.slot.stage.ledger) f.local_is
         (subst (λ (ps : List NodeId). HaveFates says me first.local ps took w.onward.sent out fates e.slot.stage.ledger) f.peers_are
         (subst (λ (m : NodeId). HaveFates says m first.local first.peers took w.onward.sent out fates e.slot.stage.ledger) f.me_is here))
-
-    pub fates_of_node : AreFatesOf says me set peers e e.slot.stage.fates.items
-    fates_of_node = record {
-      commands = passed;
-      out = w.journals.out;
-      told = subst (λ (ys : List Onward). HaveFates says me set peers (values e.slot.input.got) ys w.journals.out e.slot.stage.fates.items e.slot.stage.ledger) (sym onwards) told_of;
-    }

@@ -63,13 +63,22 @@ module _ {D : Type 0} (says : Says D) where
     pub settled : RestIsSettled
     pub parked : ParkedStandFor
 
-  -- the node's stage is, for what it took and gave, as its calls promise
+  -- the node's stages are, for what they took and gave, as their calls promise
   pub node_pends : (me : NodeId) (set : QuorumTree) (peers : List NodeId) (e : Left D) → IsNode me set peers e → (w : EndWell says e) → Pends me peers (values e.pend.input.got) w.given.sent e.pend.stage
   node_pends me set peers e n w =
       let f : PendsFor me peers set e.pend.first = n.pends_for in
       subst (λ (o : Option (Sender Ready)). Pends me peers (values e.pend.input.got) (sent_by o) e.pend.stage) w.pend_ended
       (subst (λ (ps : List NodeId). Pends me ps (values e.pend.input.got) (sent_by e.pend.output) e.pend.stage) f.peers_are
       (subst (λ (m : NodeId). Pends m e.pend.first.settled.peers (values e.pend.input.got) (sent_by e.pend.output) e.pend.stage) f.me_is w.pends.all.pends))
+
+  pub node_journals : (me : NodeId) (set : QuorumTree) (peers : List NodeId) (e : Left D) → IsNode me set peers e → (w : EndWell says e) → JournalsBy says me set peers (values e.slot.input.got) w.onward.sent e.slot.stage.ledger
+  node_journals me set peers e n w =
+      let took : List Ready = values e.slot.input.got in
+      let f : JournalsFor me peers set e.slot.first.ledger = n.journals_for in
+      subst (λ (o : Option (Sender Onward)). JournalsBy says me set peers took (sent_by o) e.slot.stage.ledger) w.slot_ended
+      (subst (λ (q : QuorumTree). JournalsBy says me q peers took (sent_by e.slot.output) e.slot.stage.ledger) f.local_is
+      (subst (λ (ps : List NodeId). JournalsBy says me e.slot.first.ledger.local ps took (sent_by e.slot.output) e.slot.stage.ledger) f.peers_are
+      (subst (λ (m : NodeId). JournalsBy says m e.slot.first.ledger.local e.slot.first.ledger.peers took (sent_by e.slot.output) e.slot.stage.ledger) f.me_is w.journals.all.journals)))
 
 -- what a reader sent is all that its items are read as
 reads_all : (r : ReaderEnd) (output : Sender Inbound) → HasReadAll r → r.output ≡ Some output → output.sent ≡ readings unread (values r.input.got)
@@ -188,12 +197,7 @@ module _ {D : Type 0} (says : Says D) where
     pends_is = subst (λ (rs : List Ready). Pends me peers came rs e.pend.stage) (sym on_way) (node_pends says me set peers e n w)
 
     journals_is : JournalsBy says me set peers took w.onward.sent e.slot.stage.ledger
-    journals_is =
-        let f : JournalsFor me peers set e.slot.first.ledger = n.journals_for in
-        subst (λ (o : Option (Sender Onward)). JournalsBy says me set peers took (sent_by o) e.slot.stage.ledger) w.slot_ended
-        (subst (λ (q : QuorumTree). JournalsBy says me q peers took (sent_by e.slot.output) e.slot.stage.ledger) f.local_is
-        (subst (λ (ps : List NodeId). JournalsBy says me e.slot.first.ledger.local ps took (sent_by e.slot.output) e.slot.stage.ledger) f.peers_are
-        (subst (λ (m : NodeId). JournalsBy says m e.slot.first.ledger.local e.slot.first.ledger.peers took (sent_by e.slot.output) e.slot.stage.ledger) f.me_is w.journals.all.journals)))
+    journals_is = node_journals says me set peers e n w
 
     start_is : start_of me peers e.pend.stage ≡ fresh me peers set
     start_is = ap (λ (q : QuorumTree). fresh me peers q) local_is_set

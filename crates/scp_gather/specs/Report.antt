@@ -16,7 +16,6 @@ use Rattle.scp_pending.specs.Messages.{AreParked, message_cmp}
 use Rattle.scp_ledger.specs.declared.journal.Decision.{Decision}
 use Rattle.scp_ledger.specs.declared.journal.Fate.{Fate}
 use Rattle.scp_ledger.specs.declared.took.CommandFate.{CommandFate}
-use Rattle.scp_ledger.specs.declared.took.Outgoing.{Outgoing}
 use Rattle.scp_ends.specs.Ends.{Line, Sender}
 use Rattle.scp_ends.specs.Links.{LinkEnd}
 use Rattle.scp_ends.specs.Order.{values}
@@ -25,6 +24,7 @@ use Rattle.scp_workers.specs.Reading.{ReaderEnd}
 use Rattle.scp_workers.specs.Slot.{HaveFates}
 use Rattle.scp_gather.specs.Left.{Left, sent_over}
 use Rattle.scp_gather.specs.Gathered.{account_gathered, AreLeftParked, Gathered}
+use Rattle.scp_gather.specs.Sending.{ArePutOut}
 
 -- ---- whose ends they are
 
@@ -77,11 +77,12 @@ module _ {D : Type 0} (says : Says D) where
     pub applied_is : applied ≡ e.apply.stage.applied
 
   -- This became of the node's own commands, except ticks, one each, in order. Exactly these commands are among what its ledger took, in that
-  -- order. This is what the ledger reported of each, as it was then.
+  -- order. This is what the ledger reported of each, as it was then: in the same run in which it handed out what was put into the outboxes.
   pub record AreFatesOf (me : NodeId) (set : QuorumTree) (peers : List NodeId) (e : Left D) (fates : List CommandFate) : Type 0 where
     pub commands : commands_of (values e.slot.input.got) ≡ commands_in e.local.sent
-    pub out : List Outgoing  -- what it handed out
-    pub told : HaveFates says me set peers (values e.slot.input.got) (values e.apply.input.got) out fates e.slot.stage.ledger
+    pub put : ArePutOut says me set peers e
+    pub told : HaveFates says me set peers (values e.slot.input.got) (values e.apply.input.got) put.said fates e.slot.stage.ledger
+    pub same_run : told.takes ≡ put.handed.takes
 
 -- ---- what came over its links
 

@@ -12,28 +12,24 @@ use Rattle.scp_ledger.specs.declared.took.Onward.{Onward}
 use Rattle.scp_ledger.specs.declared.took.Outgoing.{Outgoing}
 use Rattle.scp_ledger.specs.declared.took.Took.{Took}
 use Rattle.scp_ledger.specs.Seen.{LedgerView}
-use Rattle.scp_ledger.specs.By.{TakesBy, TellsBy}
 use Rattle.scp_ledger.specs.Runs.{Taking, thing_of, onward_of, nothing_taken}
-use Rattle.scp_theorem.specs.Handed.{out_by}
-use Rattle.scp_workers.specs.Slot.{fate_of, TellsEach, HaveFates}
-use Rattle.scp_workers.proofs.Driving.{driver_stays}
+use Rattle.scp_theorem.specs.Handed.{out_by, Serves, ServesEach}
+use Rattle.scp_theorem.proofs.Driving.{driver_stays}
+use Rattle.scp_theorem.proofs.Serving.{serves_one}
+use Rattle.scp_workers.specs.Slot.{fate_of, HaveFates}
 
 module _ {D : Type 0} (says : Says D) where
-  tells_more : (first old new : LedgerView D) (takes : List Taking) (t : Taking) → TellsEach says first takes old → TakesBy says old t.thing t.gave new → TellsBy says old t.thing t.gave → TellsEach says first (takes ++ t ∷ []) new
-  tells_more first old new [] t e goes tells = (new, subst (λ (v : LedgerView D). TakesBy says v t.thing t.gave new) e goes, subst (λ (v : LedgerView D). TellsBy says v t.thing t.gave) e tells, refl)
-  tells_more first old new (u ∷ takes) t e goes tells = (e.0, e.1, e.2, tells_more e.0 old new takes t e.3 goes tells)
-
   pub fates_more : (me : NodeId) (local : QuorumTree) (peers : List NodeId) (took : List Ready) (sent : List Onward) (out : List Outgoing) (fates more : List CommandFate) (old new : LedgerView D) (x : Ready) (t : Took)
-      → TakesBy says old x t new → TellsBy says old x t → new.first ≡ old.first → more ≡ fates ++ option_to_list t.command → HaveFates says me local peers took sent out fates old → HaveFates says me local peers (took ++ x ∷ []) (sent ++ option_to_list t.onward) (out ++ t.outgoing) more new
-  fates_more me local peers took sent out fates more old new x t goes tells begun e h =
+      → Serves says old (record { thing = x; gave = t }) new → new.first ≡ old.first → more ≡ fates ++ option_to_list t.command → HaveFates says me local peers took sent out fates old → HaveFates says me local peers (took ++ x ∷ []) (sent ++ option_to_list t.onward) (out ++ t.outgoing) more new
+  fates_more me local peers took sent out fates more old new x t serves begun e h =
       let last : Taking = record { thing = x; gave = t } in record {
         takes = h.takes ++ last ∷ [];
         took_are = map-append thing_of h.takes (last ∷ []) ∙ ap (λ (xs : List Ready). xs ++ x ∷ []) h.took_are;
         onwards_are = flat_map-append onward_of h.takes (last ∷ []) ∙ ap (λ (ys : List Onward). ys ++ (option_to_list t.onward ++ [])) h.onwards_are ∙ ap (λ (ys : List Onward). sent ++ ys) (append-nil (option_to_list t.onward));
         outs_are = flat_map-append out_by h.takes (last ∷ []) ∙ ap (λ (os : List Outgoing). os ++ (t.outgoing ++ [])) h.outs_are ∙ ap (λ (os : List Outgoing). out ++ os) (append-nil t.outgoing);
         fates_are = flat_map-append fate_of h.takes (last ∷ []) ∙ ap (λ (ys : List CommandFate). ys ++ (option_to_list t.command ++ [])) h.fates_are ∙ ap (λ (ys : List CommandFate). fates ++ ys) (append-nil (option_to_list t.command)) ∙ sym e;
-        told = subst (λ (n : ℕ). TellsEach says (nothing_taken me local new.driver peers n) (h.takes ++ last ∷ []) new) (sym begun)
-            (subst (λ (driver : D). TellsEach says (nothing_taken me local driver peers old.first) (h.takes ++ last ∷ []) new) (sym (driver_stays says old t new x goes)) (tells_more (nothing_taken me local old.driver peers old.first) old new h.takes last h.told goes tells));
+        told = subst (λ (n : ℕ). ServesEach says (nothing_taken me local new.driver peers n) (h.takes ++ last ∷ []) new) (sym begun)
+            (subst (λ (driver : D). ServesEach says (nothing_taken me local driver peers old.first) (h.takes ++ last ∷ []) new) (sym (driver_stays says old t new x serves.takes)) (serves_one says (nothing_taken me local old.driver peers old.first) old new h.takes last h.told serves));
       }
 
   pub fates_begin : (me : NodeId) (local set : QuorumTree) (peers known : List NodeId) (got : List Ready) (sent : List Onward) (fates : List CommandFate) (v : LedgerView D)

@@ -3,8 +3,6 @@ pub mod Outlets
 pub mod Stopping
 pub mod Running
 pub mod Waiting
-pub mod Driving
 pub mod Fates
-pub mod Answering
 pub mod Crossing
 pub mod Carrying

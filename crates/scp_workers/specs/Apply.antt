@@ -2,7 +2,7 @@
 use Rattle.std.specs.Prelude.{◌≡◌, List}
 use Rattle.scp_ledger.specs.declared.took.Onward.{Onward}
 use Rattle.scp_ledger.specs.declared.took.Outgoing.{Outgoing}
-use Rattle.scp_theorem.specs.Handed.{Answers}
+use Rattle.scp_theorem.specs.Handed.{nothing_applied, AnswersEach}
 use Rattle.scp_apply.specs.Applier.{ApplierView}
 use Rattle.scp_apply.specs.Applies.{Applies}
 use Rattle.scp_workers.specs.declared.apply.Nothing.{Nothing}
@@ -16,10 +16,12 @@ ApplyWork = Work Onward Nothing ApplierView
 abbrev pub ApplyEnd : Type 0
 ApplyEnd = End Onward Nothing ApplierView
 
--- the applier, which began with slot 1, took these, and handed out its answers to them; it gives nothing on
+-- The applier, which had taken nothing and began with slot 1, took these, and handed out its answers to them, one or none to each. It gives
+-- nothing on.
 pub record AppliesFrom (first : ApplierView) (took : List Onward) (gave : List Nothing) (out : List Outgoing) (now : ApplierView) : Type 0 where
+  pub begun : first ≡ nothing_applied 1
   pub applies : Applies took now
-  pub answers : Answers first took out now
+  pub answers : AnswersEach first took out now
   pub from_one : now.first ≡ 1
 
 -- nothing is ever left to give

@@ -1,5 +1,5 @@
 -- The slot stage, which runs the slots.
-use Rattle.std.specs.Prelude.{◌≡◌, List, [], ◌∷◌, flat_map, option_to_list}
+use Rattle.std.specs.Prelude.{◌≡◌, List, flat_map, option_to_list}
 use Rattle.scp_driver.specs.Driver.{Says}
 use Rattle.scp_types.specs.declared.names.NodeId.{NodeId}
 use Rattle.scp_quorum.specs.QuorumTree.{QuorumTree}
@@ -9,8 +9,8 @@ use Rattle.scp_ledger.specs.declared.took.Onward.{Onward}
 use Rattle.scp_ledger.specs.declared.took.Outgoing.{Outgoing}
 use Rattle.scp_ledger.specs.Runs.{Taking, things, onwards_of, nothing_taken}
 use Rattle.scp_ledger.specs.Seen.{LedgerView}
-use Rattle.scp_ledger.specs.By.{JournalsBy, TakesBy, TellsBy}
-use Rattle.scp_theorem.specs.Handed.{outs_of}
+use Rattle.scp_ledger.specs.By.{JournalsBy}
+use Rattle.scp_theorem.specs.Handed.{outs_of, ServesEach}
 use Rattle.scp_workers.specs.declared.slot.SlotStage.{SlotStage}
 use Rattle.scp_workers.specs.Working.{Work, End, HasRun}
 
@@ -33,11 +33,6 @@ abbrev pub fates_of : List Taking → List CommandFate
 fates_of takes = flat_map fate_of takes
 
 module _ {D : Type 0} (says : Says D) where
-  -- each thing was taken by the ledger that the one before it left, and that ledger, as it was then, reported what became of it
-  abbrev pub TellsEach : LedgerView D → List Taking → LedgerView D → Type 0
-  TellsEach old [] new = new ≡ old
-  TellsEach old (t ∷ takes) new = (between : LedgerView D) × TakesBy says old t.thing t.gave between × TellsBy says old t.thing t.gave × TellsEach between takes new
-
   -- A ledger of this node that had taken nothing took these, one after another, gave these on, and is this one now. This is what it handed
   -- out with them. These are the fates of the commands among them, one each, in order; a Tick has none.
   pub record HaveFates (me : NodeId) (local : QuorumTree) (peers : List NodeId) (took : List Ready) (onwards : List Onward) (outs : List Outgoing) (fates : List CommandFate) (v : LedgerView D) : Type 0 where
@@ -46,7 +41,7 @@ module _ {D : Type 0} (says : Says D) where
     pub onwards_are : onwards_of takes ≡ onwards
     pub outs_are : outs_of takes ≡ outs
     pub fates_are : fates_of takes ≡ fates
-    pub told : TellsEach (nothing_taken me local v.driver peers v.first) takes v
+    pub told : ServesEach says (nothing_taken me local v.driver peers v.first) takes v
 
   -- ---- all that it did
 

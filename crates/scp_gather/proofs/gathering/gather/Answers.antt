@@ -10,8 +10,7 @@ use Rattle.scp_ledger.specs.declared.journal.Decision.{Decision}
 use Rattle.scp_ledger.specs.declared.took.CommandFate.{CommandFate}
 use Rattle.scp_ledger.specs.Seen.{LedgerView}
 use Rattle.scp_gather.specs.Report.{AreFatesOf}
-use Rattle.scp_gather.proofs.Commands.{fates_of_node}
-use Rattle.scp_gather.proofs.Putting.{put_out}
+use Rattle.scp_gather.proofs.Putting.{put_out, fates_of_node}
 use Rattle.scp_gather.proofs.Joining.{node_pends}
 use Rattle.scp_gather.proofs.Keeping.{came_are, kept_are}
 use Rattle.scp_gather.proofs.gathering.gather.Goals as goal
