@@ -18,12 +18,13 @@ use Rattle.scp_ledger.specs.By.{TellsBy}
 use Rattle.scp_ledger.specs.CommandFates.{IsProposalFate, IsRoundFate, IsTimerFate, IsAskFate, TellsCommand}
 use Rattle.scp_ledger.specs.Runs.{Taking, things}
 use Rattle.scp_ledger.specs.Seen.{LedgerView}
+use Rattle.scp_theorem.specs.Handed.{ServesEach}
 use Rattle.scp_turn.specs.scp_core.specs.declared.event.Event.TheVariants.{SlotTake}
 use Rattle.scp_turn.specs.Commands.{TakenCommand, with_fate, command_taken, front_taken, commands_taken, fates_taken, taken_at, AreInTurn}
 use Rattle.scp_turn.specs.scp_core.specs.Kv.{NodeView, Moves}
 use Rattle.scp_turn.specs.Kv.{taken_over, AllIsTakenInTurn}
 use Rattle.scp_turn.specs.Heard.{past_at}
-use Rattle.scp_threaded_script.specs.scp_threaded_node.specs.scp_workers.specs.Slot.{fates_of, TellsEach}
+use Rattle.scp_threaded_script.specs.scp_threaded_node.specs.scp_workers.specs.Slot.{fates_of}
 use Rattle.scp_threaded_script.specs.Lines.{commands_for}
 use Rattle.scp_line.specs.Commands.{taken_among, FatesAreOfTheirLines, ReportedAreOfTheirLines}
 use Rattle.scp_line.proofs.Given.{lines_are_given}
@@ -94,20 +95,20 @@ taken_fates before after' moved =
     ∙ ap (λ (fate : Option CommandFate). option_to_list fate) (sym shown)
 
 -- all of them, one after another
-commands_are : (old : LedgerView KvDriver) (takes : List Taking) (new : LedgerView KvDriver) → TellsEach kv_says old takes new → commands_taken (taken_among takes) ≡ flat_map passing_command (commands_of (things takes))
+commands_are : (old : LedgerView KvDriver) (takes : List Taking) (new : LedgerView KvDriver) → ServesEach kv_says old takes new → commands_taken (taken_among takes) ≡ flat_map passing_command (commands_of (things takes))
 commands_are old [] new h = refl
 commands_are old (t ∷ takes) new h =
     map-append (λ (c : TakenCommand). c.command) (command_taken t.thing t.gave.command) (taken_among takes)
-    ∙ ap (λ (l : List LocalCommand). l ++ commands_taken (taken_among takes)) (thing_is old t.thing t.gave h.2)
-    ∙ ap (λ (l : List LocalCommand). flat_map passing_command (passed t.thing) ++ l) (commands_are h.0 takes new h.3)
+    ∙ ap (λ (l : List LocalCommand). l ++ commands_taken (taken_among takes)) (thing_is old t.thing t.gave h.1.tells)
+    ∙ ap (λ (l : List LocalCommand). flat_map passing_command (passed t.thing) ++ l) (commands_are h.0 takes new h.2)
     ∙ sym (flat_map-append passing_command (passed t.thing) (commands_of (things takes)))
 
-fates_are : (old : LedgerView KvDriver) (takes : List Taking) (new : LedgerView KvDriver) → TellsEach kv_says old takes new → fates_taken (taken_among takes) ≡ fates_of takes
+fates_are : (old : LedgerView KvDriver) (takes : List Taking) (new : LedgerView KvDriver) → ServesEach kv_says old takes new → fates_taken (taken_among takes) ≡ fates_of takes
 fates_are old [] new h = refl
 fates_are old (t ∷ takes) new h =
     map-append (λ (c : TakenCommand). c.fate) (command_taken t.thing t.gave.command) (taken_among takes)
-    ∙ ap (λ (l : List CommandFate). l ++ fates_taken (taken_among takes)) (fate_is old t.thing t.gave h.2)
-    ∙ ap (λ (l : List CommandFate). option_to_list t.gave.command ++ l) (fates_are h.0 takes new h.3)
+    ∙ ap (λ (l : List CommandFate). l ++ fates_taken (taken_among takes)) (fate_is old t.thing t.gave h.1.tells)
+    ∙ ap (λ (l : List CommandFate). option_to_list t.gave.command ++ l) (fates_are h.0 takes new h.2)
 
 pub reported_are_of_lines : ReportedAreOfTheirLines
 reported_are_of_lines commands all are i r at =

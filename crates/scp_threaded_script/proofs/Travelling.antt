@@ -16,7 +16,7 @@ use Rattle.scp_shared_outbox.specs.Table.{at_link, at_place, AreRows, AreAllBack
 use Rattle.scp_shared_outbox.proofs.Peers.{link_within, peer_of_place}
 use Rattle.scp_theorem.specs.Grounds.{Grounds, IsSentOut}
 use Rattle.scp_theorem.specs.Handed.{handed_by}
-use Rattle.scp_theorem.specs.Laws.{AreHandedOut, HandedOutMayGo}
+use Rattle.scp_theorem.specs.Laws.{HandedOutMayGo}
 use Rattle.scp_ledger.specs.declared.took.Outgoing.{Outgoing}
 use Rattle.scp_ends.specs.Links.{LinkEnd}
 use Rattle.scp_ends.specs.Order.{values}
@@ -24,10 +24,11 @@ use Rattle.scp_threaded_node.specs.scp_workers.specs.Working.{HavePut, AreSameOu
 use Rattle.scp_workers.specs.Carrying.{HasCarried, IsSameTaker}
 use Rattle.scp_gather.specs.Sent.{WhatIsCarriedIsSentOut, bytes_among}
 use Rattle.scp_gather.specs.Theirs.{AreTheirs, WhatIsReadIsTheirs}
+use Rattle.scp_threaded_node.specs.scp_gather.specs.Gathered.{account_gathered}
 use Rattle.scp_threaded_node.specs.scp_gather.specs.Kv.{NodeReport, Left}
 use Rattle.scp_threaded_node.specs.scp_gather.specs.Left.{items_of}
 use Rattle.scp_script.specs.declared.command.Command.{Command}
-use Rattle.scp_script.specs.Nodes.{id_of, peers_of}
+use Rattle.scp_script.specs.Nodes.{id_of, peers_of, set_at}
 use Rattle.scp_script.specs.Script.{node_count}
 use Rattle.scp_threaded_node.specs.Kv.{Node}
 use Rattle.scp_threaded_node.specs.declared.node.Running.{Running}
@@ -37,7 +38,7 @@ use Rattle.scp_threaded_node.specs.Outlets.{GivenEnds, given_to, taker_in, taker
 use Rattle.scp_threaded_node.specs.Seats.{IsDriven, AreDriven}
 use Rattle.scp_threaded_script.specs.Lines.{is_driven, driven_to, items_to}
 use Rattle.scp_threaded_script.specs.Reported.{AreNodesReported, AreSoReported, IsNodeReported}
-use Rattle.scp_threaded_script.specs.Travels.{Travels, grounds_at}
+use Rattle.scp_threaded_script.specs.Travels.{PutBy, Travels, grounds_at}
 use Rattle.scp_threaded_script.specs.inside.Outlets.{AreSameMarkers, IsSeated, AreSeated, all_given}
 use Rattle.scp_threaded_script.specs.inside.Over.{IsOver, AreOver}
 use Rattle.scp_threaded_script.specs.inside.Played.{HaveDone}
@@ -175,16 +176,14 @@ module _ (commands : List Command) (nodes : List Node) (first markers : List (Ve
         (subst (λ (items : List Inbound). AreTheirs g link items) (sym (taken ∙ ap (λ (z : Option LinkEnd). readings unread (items_of z)) at)) (read g link k.tail.sent sent))
 
     travels_at : (from to : ℕ) → AreTwoOf count from to → is_driven commands from to ≡ false → (sender : Left) (o : Outlets) (t : Vec (Option TakerView)) → IsAt (from - 1) sender o t
-        → (receiver : Left) (o2 : Outlets) (t2 : Vec (Option TakerView)) → IsAt (to - 1) receiver o2 t2 → Travels commands from to sender receiver
-    travels_at from to two free sender o t x receiver o2 t2 y =
+        → (receiver : Left) (o2 : Outlets) (t2 : Vec (Option TakerView)) → IsAt (to - 1) receiver o2 t2 → (put : PutBy commands from sender) → Travels commands from to sender receiver put
+    travels_at from to two free sender o t x receiver o2 t2 y put =
         let l = link_of to from in
         let m = link_of from to in
         let l_in : l + 1 < count = link_within count to from (two.1, two.0, λ e. two.2 (sym e)) in
         let m_in : m + 1 < count = link_within count from to two in
-        let n_from : from - 1 + 1 ≡ from = omega (arith, two.0.0) in
         let n_to : to - 1 + 1 ≡ to = omega (arith, two.1.0) in
         let back = x.is.back in
-        let put = back.put in
         let own = outlets_back (from - 1) sender o t x in
         let k = link_at (to - 1) (omega (arith, two.1.0, two.1.1)) receiver o2 t2 y m m_in in
         let lane = there_is y.node.lanes.items m (omega (arith, m_in, y.seat.takers_many, length-map y.node.lanes.items taker_in)) in
@@ -199,13 +198,9 @@ module _ (commands : List Command) (nodes : List Node) (first markers : List (Ve
         (put_at from l o.pend.items sender.pend.outlets put.replies own.pend.many l_in back.outlets_are.0 put.replies_put)
         (put_at from l o.slot.items sender.slot.outlets put.said own.slot.many l_in back.outlets_are.1 put.said_put)
         (put_at from l o.apply.items sender.apply.outlets put.answers own.apply.many l_in back.outlets_are.2 put.answers_put) in
-        let handed : AreHandedOut kv_says (grounds_at commands from sender) put.replies put.said put.answers = subst (λ (n : ℕ). AreHandedOut kv_says (grounds_at commands n sender) put.replies put.said put.answers) n_from put.handed in
-        let sent = law (grounds_at commands from sender) l (handed_by put.replies l) (handed_by put.said l) (handed_by put.answers l) b.0.gave k.0 (may (grounds_at commands from sender) put.replies put.said put.answers handed l) out b.2 in
+        let account = account_gathered (id_of from) (set_at from commands) (peers_of count from) sender in
+        let sent = law (grounds_at commands from sender) l (handed_by put.replies l) (handed_by put.said l) (handed_by put.answers l) b.0.gave k.0 (may account put.replies put.said put.answers put.handed l) out b.2 in
         record {
-          replies = put.replies;
-          said = put.said;
-          answers = put.answers;
-          handed = handed;
           gave = b.0.gave;
           came_out = out;
           link = k.0;
@@ -226,9 +221,9 @@ module _ (commands : List Command) (nodes : List Node) (first markers : List (Ve
       lefts = over.lefts;
       lefts_count = over.lefts_count ∙ many;
       reported = so_reported;
-      travels = λ from to two free sender receiver hs hr.
+      travels = λ from to two free sender receiver hs hr put.
           let x = at_node (from - 1) (omega (arith, two.0.0, two.0.1)) in
           let y = at_node (to - 1) (omega (arith, two.1.0, two.1.1)) in
-          subst (λ (s : Left). Travels commands from to s receiver) (some_is x.0 sender (sym x.3.left_at ∙ hs))
-          (subst (λ (r : Left). Travels commands from to x.0 r) (some_is y.0 receiver (sym y.3.left_at ∙ hr)) (travels_at from to two free x.0 x.1 x.2 x.3 y.0 y.1 y.2 y.3));
+          subst (λ (s : Left). (p : PutBy commands from s) → Travels commands from to s receiver p) (some_is x.0 sender (sym x.3.left_at ∙ hs))
+          (subst (λ (r : Left). (p : PutBy commands from x.0) → Travels commands from to x.0 r p) (some_is y.0 receiver (sym y.3.left_at ∙ hr)) (travels_at from to two free x.0 x.1 x.2 x.3 y.0 y.1 y.2 y.3)) put;
     }

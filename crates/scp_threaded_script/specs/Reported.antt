@@ -17,7 +17,7 @@ use Rattle.scp_threaded_node.specs.Seats.{Each, Runs}
 use Rattle.scp_threaded_node.specs.Faults.{IsNodeEnd, fault_of}
 use Rattle.scp_threaded_script.specs.declared.running.NodeFault.{NodeFault}
 use Rattle.scp_threaded_script.specs.Lines.{peer_at, is_driven, driven_to, items_to, commands_for}
-use Rattle.scp_threaded_script.specs.Travels.{Travels}
+use Rattle.scp_threaded_script.specs.Travels.{PutBy, Travels}
 
 -- how the lines leave the link from one node to another: how often it was opened, and whether it is open
 abbrev pub stood_on : List Command → ℕ → ℕ → Stood
@@ -40,14 +40,14 @@ abbrev pub AreSoReported : List Command → List Left → List NodeReport → Ty
 AreSoReported commands lefts all = Each (λ i r. (left : Left) × (slice_get lefts i ≡ Some left) × IsNodeReported commands (i + 1) left r) all
 
 -- There is one report for each node of the script, from node 1 on, of the node that the script defines. And for each link that the script
--- doesn't drive, it is known what travelled over it.
+-- doesn't drive, it is known what travelled over it: of what the sender's stages put into outboxes, in the run of its report (`fates_are`).
 pub record AreNodesReported (commands : List Command) (all : List NodeReport) : Type 0 where
   pub count : length all ≡ node_count commands
   pub lefts : List Left
   pub lefts_count : length lefts ≡ node_count commands
   pub reported : AreSoReported commands lefts all
   pub travels : (from to : ℕ) → AreTwoOf (node_count commands) from to → is_driven commands from to ≡ false
-      → (sender receiver : Left) → slice_get lefts (from - 1) ≡ Some sender → slice_get lefts (to - 1) ≡ Some receiver → Travels commands from to sender receiver
+      → (sender receiver : Left) → slice_get lefts (from - 1) ≡ Some sender → slice_get lefts (to - 1) ≡ Some receiver → (put : PutBy commands from sender) → Travels commands from to sender receiver put
 
 -- each report has what came over each of its node's links if `keeps` is set, and else over none
 abbrev pub AreAllKept : Bool → List NodeReport → Type 0
