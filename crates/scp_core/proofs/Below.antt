@@ -25,7 +25,7 @@ module _ {D : Type 0} (says : Says D) where
     pub grows : TakesGrow says.level says.extracted says.combined says.place
     pub applies : AppliesPass
 
-  -- of what is kept and what was sent
+  -- of what is kept, what was handed out and what was sent
   pub record Laws : Type 0 where
     pub read : ReadLaws
     pub ran : RanKeepsLedger says.level says.extracted says.combined says.place
@@ -35,3 +35,5 @@ module _ {D : Type 0} (says : Says D) where
     pub empty : EmptySends
     pub puts : PutsKeepSends
     pub gives : GivesKeepSends
+    pub journals : JournalsPass says.level says.extracted says.combined says.place
+    pub applies : AppliesPass

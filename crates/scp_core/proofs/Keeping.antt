@@ -1,11 +1,15 @@
 -- The ledger theorem in one record, of a node that runs and of one that failed.
 use Rattle.std.proofs.Common.{◌≡◌, ℕ, true, false, List, ◌++◌, refl, sym, ◌∙◌, ap, subst, inl, inr, None}
+use Rattle.std.specs.Prelude.{flat_map}
+use Rattle.std.specs.List.{AllZip}
 use Rattle.scp_driver.specs.Driver.{Says}
 use Rattle.scp_wire.specs.declared.link.Inbound.{Inbound}
+use Rattle.scp_wire.specs.Message.{message_value, SpellsMessage}
 use Rattle.scp_theorem.specs.Kept.{KeepsLedger}
 use Rattle.scp_theorem.specs.Grounds.{IsSentOut}
 use Rattle.scp_core.specs.declared.config.Config.{Config}
 use Rattle.scp_core.specs.Flow.{Flows}
+use Rattle.scp_core.specs.Handed.{WentOut, given_over}
 use Rattle.scp_core.specs.History.{Exchange, past_of, nothing_heard}
 use Rattle.scp_core.specs.Ledger.{account_of, HoldsLedger, TheoremGivesLedger}
 use Rattle.scp_core.specs.Node.{NodeView}
@@ -15,6 +19,7 @@ use Rattle.scp_core.proofs.Accounting.{kept_at}
 use Rattle.scp_core.proofs.Below.{Laws}
 use Rattle.scp_core.proofs.Failing.{Failure, failure_of, which}
 use Rattle.scp_core.proofs.grounds.All.{sent_at, sent_before}
+use Rattle.scp_core.proofs.grounds.Whole.{went_out}
 
 module _ {D : Type 0} (says : Says D) where
   -- of a node that runs
@@ -24,6 +29,7 @@ module _ {D : Type 0} (says : Says D) where
     first : v.ledger.first ≡ 1
     keeps : KeepsLedger says.level says.extracted says.combined says.place (account_of past v came)
     sent : (link : ℕ) → IsSentOut (grounds_of v came) link (sent_to link past)
+    out : WentOut says (account_of past v came) (λ link. sent_to link past) v.outboxes
 
   kept : Laws says → (past : List Exchange) (v : NodeView D) → LedgerTheorem says past v → v.failed ≡ false → Kept past v
   kept law past v h runs =
@@ -34,6 +40,7 @@ module _ {D : Type 0} (says : Says D) where
         first = f.first.0;
         keeps = kept_at says law (past_of v.config past) v f;
         sent = sent_at says law past v h f;
+        out = went_out says law past v h f;
       }
 
   of_running : Laws says → (past : List Exchange) (v : NodeView D) → LedgerTheorem says past v → v.failed ≡ false → HoldsLedger says past v
@@ -51,12 +58,14 @@ module _ {D : Type 0} (says : Says D) where
         came_is = k.came_is;
         keeps = k.keeps;
         sent = k.sent;
+        out = k.out;
       }
 
   of_failed : Laws says → (past : List Exchange) (v : NodeView D) → v.failed ≡ true → Failure says past v → HoldsLedger says past v
   of_failed law past v failed x =
       let k = kept law x.earlier x.moment x.theorem x.fails.was in
       let left = x.fails.keeps in
+      let quiet : (link : ℕ) → sent_to link past ≡ sent_to link x.earlier = λ link. ap (sent_to link) x.is ∙ sent_before link x.earlier x.later x.event x.reply x.reply_fails x.silent_then in
       record {
         earlier = x.earlier;
         moment = x.moment;
@@ -68,7 +77,13 @@ module _ {D : Type 0} (says : Says D) where
         came = k.came;
         came_is = ap (λ (c : Config). (past_of c x.earlier).came) left.config ∙ k.came_is;
         keeps = k.keeps;
-        sent = λ link. subst (λ (bytes : List (List ℕ)). IsSentOut (grounds_of x.moment k.came) link bytes) (sym (ap (sent_to link) x.is ∙ sent_before link x.earlier x.later x.event x.reply x.reply_fails x.silent_then)) (k.sent link);
+        sent = λ link. subst (λ (bytes : List (List ℕ)). IsSentOut (grounds_of x.moment k.came) link bytes) (sym (quiet link)) (k.sent link);
+        out = record {
+          moves = k.out.moves;
+          handed = k.out.handed;
+          moved = k.out.moved;
+          spelt = λ link. subst (λ (bytes : List (List ℕ)). AllZip (λ bs m. SpellsMessage bs (message_value m)) bytes (flat_map (given_over link) k.out.moves)) (sym (quiet link)) (k.out.spelt link);
+        };
       }
 
   pub theorem_gives_ledger : Laws says → TheoremGivesLedger says

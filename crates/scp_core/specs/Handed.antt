@@ -1,5 +1,6 @@
 -- What each step hands out for the links, and what a drain gives.
-use Rattle.std.specs.Prelude.{ℕ, ◌≡◌, ◌≢◌, ◌⊎◌, false, List, [], Some, None, IfSome, slice_get}
+use Rattle.std.specs.Prelude.{ℕ, ◌≡◌, ◌≢◌, ◌⊎◌, false, List, [], ◌∷◌, Some, None, IfSome, length, flat_map, replicate, nat_eq, if◌then◌else◌, slice_get}
+use Rattle.std.specs.List.{AllZip}
 use Rattle.scp_driver.specs.Driver.{Says}
 use Rattle.scp_types.specs.declared.names.NodeId.{NodeId}
 use Rattle.scp_wire.specs.declared.link.Inbound.{Inbound}
@@ -7,12 +8,14 @@ use Rattle.scp_wire.specs.declared.message.Message.{Message}
 use Rattle.scp_wire.specs.Message.{message_value, SpellsMessage}
 use Rattle.scp_wire.specs.Fitting.{IsFitting}
 use Rattle.scp_outbox.specs.Outbox.{OutboxView}
-use Rattle.scp_outbox.specs.Handing.{GivesThere}
+use Rattle.scp_outbox.specs.Handing.{GivesThere, empty_outbox}
 use Rattle.scp_ledger.specs.declared.took.Outgoing.{Outgoing}
 use Rattle.scp_pending.specs.declared.ready.Ready.{Ready}
 use Rattle.scp_pending.specs.Pends.{Pends}
 use Rattle.scp_pending.specs.Rules.{PendingView, reply as reply_to}
+use Rattle.scp_theorem.specs.Account.{Account}
 use Rattle.scp_theorem.specs.Handed.{out_of}
+use Rattle.scp_theorem.specs.Laws.{AreHandedOut}
 use Rattle.scp_core.specs.declared.event.Event.{Event}
 use Rattle.scp_core.specs.declared.event.Event.TheVariants.{PendTake, SlotTake, ApplyTake, Drain}
 use Rattle.scp_core.specs.declared.event.Reply.{Reply}
@@ -61,6 +64,65 @@ module _ {D : Type 0} (says : Says D) where
   -- a drain of a running node answers so, or runs out of memory
   abbrev pub DrainsGiveNext : Type 0
   DrainsGiveNext = (old new : NodeView D) (link : ℕ) (reply : Reply) → old.failed ≡ false → Step says old (Drain link) reply new → reply ≢ NoMemory → IsDrained old.outboxes link reply new.outboxes
+
+-- ---- all that went out since the node was made
+
+-- A move at a node's outboxes. Its pending stage, its slot stage or its applier put what it handed out in a step; or the outbox of a link gave a
+-- message.
+pub data Move : Type 0 where
+  replied : List Outgoing → Move
+  said : List Outgoing → Move
+  answered : List Outgoing → Move
+  gave : ℕ → Message → Move
+
+-- what the pending stage handed out
+abbrev pub replies_in : Move → List Outgoing
+replies_in (replied out) = out
+replies_in (said out) = []
+replies_in (answered out) = []
+replies_in (gave l message) = []
+
+-- what the slot stage handed out
+abbrev pub sayings_in : Move → List Outgoing
+sayings_in (replied out) = []
+sayings_in (said out) = out
+sayings_in (answered out) = []
+sayings_in (gave l message) = []
+
+-- what the applier handed out
+abbrev pub answers_in : Move → List Outgoing
+answers_in (replied out) = []
+answers_in (said out) = []
+answers_in (answered out) = out
+answers_in (gave l message) = []
+
+-- what the outbox of this link gave
+abbrev pub given_over : ℕ → Move → List Message
+given_over link (replied out) = []
+given_over link (said out) = []
+given_over link (answered out) = []
+given_over link (gave l message) = if nat_eq l link then message ∷ [] else []
+
+-- what a move makes of the outboxes
+abbrev pub MovesOne : List OutboxView → Move → List OutboxView → Type 0
+MovesOne old (replied out) new = HandsEach old out new
+MovesOne old (said out) new = HandsEach old out new
+MovesOne old (answered out) new = HandsEach old out new
+MovesOne old (gave l message) new = GivesThere old l (Some message) new
+
+-- each move was made at the outboxes that the one before it left
+abbrev pub MovesEach : List OutboxView → List Move → List OutboxView → Type 0
+MovesEach old [] new = new ≡ old
+MovesEach old (move ∷ moves) new = (between : List OutboxView) × MovesOne old move between × MovesEach between moves new
+
+module _ {D : Type 0} (says : Says D) where
+  -- All that went out of a node with this account. Its stages put into its outboxes, which were empty, exactly what they handed out, each in its
+  -- order. What was sent over a link is exactly what the link's outbox gave, in order.
+  pub record WentOut (a : Account D) (sent : ℕ → List (List ℕ)) (outboxes : List OutboxView) : Type 0 where
+    pub moves : List Move
+    pub handed : AreHandedOut says a (flat_map replies_in moves) (flat_map sayings_in moves) (flat_map answers_in moves)
+    pub moved : MovesEach (replicate (length a.peers) empty_outbox) moves outboxes
+    pub spelt : (link : ℕ) → AllZip (λ bytes m. SpellsMessage bytes (message_value m)) (sent link) (flat_map (given_over link) moves)
 
 -- ---- why nothing is left out
 

@@ -10,6 +10,7 @@ use Rattle.scp_theorem.specs.Grounds.{IsSentOut}
 use Rattle.scp_core.specs.declared.event.Event.{Event}
 use Rattle.scp_core.specs.declared.event.Reply.{Reply}
 use Rattle.scp_core.specs.declared.event.Reply.TheVariants.{Failed, JournalFull, NoMemory}
+use Rattle.scp_core.specs.Handed.{WentOut}
 use Rattle.scp_core.specs.History.{Exchange, past_of, nothing_heard}
 use Rattle.scp_core.specs.Node.{LinkView, NodeView, Step, Keeps}
 use Rattle.scp_core.specs.Sent.{grounds_of, sent_to}
@@ -81,8 +82,9 @@ module _ {D : Type 0} (says : Says D) where
     pub came_is : (past_of v.config earlier).came ≡ came ++ moment.inbox
     -- each message has at most one fate, each fate and each verdict has its cause, and each decision has what it rests on
     pub keeps : KeepsLedger says.level says.extracted says.combined says.place (account_of earlier moment came)
-    -- all that was sent to each peer has its reason
+    -- all that was sent to each peer has its reason, and is exactly what the outboxes gave of exactly what the stages handed out
     pub sent : (link : ℕ) → IsSentOut (grounds_of moment came) link (sent_to link past)
+    pub out : WentOut says (account_of earlier moment came) (λ link. sent_to link past) moment.outboxes
 
   -- `HoldsLedger` follows from `LedgerTheorem`
   abbrev pub TheoremGivesLedger : Type 0

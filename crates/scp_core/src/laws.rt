@@ -40,7 +40,7 @@ pub fn what_holds_of_a_past_holds_with_one_step_more<D: Driver + Drop + Copy>()
 }
 
 /// The node holds its ledger. Each message has at most one fate, each fate and each verdict has its cause, each decision has what it rests
-/// on, and all that was sent has its reason.
+/// on, and all that was sent has its reason: it is what the outboxes gave of exactly what the stages handed out.
 pub fn each_node_holds_its_ledger<D: Driver + Drop + Copy>()
     ensures ledger { TheoremGivesLedger D.says }
 {
@@ -52,6 +52,8 @@ pub fn each_node_holds_its_ledger<D: Driver + Drop + Copy>()
     nothing_is_of_a_stranger();
     what_is_replied_was_asked_for();
     what_is_sent_was_handed_out();
+    what_holds_of_a_ledger_holds_with_one_thing_more::<D>();
+    what_holds_of_an_applier_holds_with_one_thing_more();
 }
 
 /// A node that holds its ledger holds its headline: what was sent to it, what it holds and what it shows.

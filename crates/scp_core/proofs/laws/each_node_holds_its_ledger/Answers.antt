@@ -17,5 +17,7 @@ returns g c = record {
     empty = c.what_is_sent_was_handed_out.ensures.empty;
     puts = c.what_is_sent_was_handed_out.ensures.puts;
     gives = c.what_is_sent_was_handed_out.ensures.gives;
+    journals = c.what_holds_of_a_ledger_holds_with_one_thing_more.ensures.journals;
+    applies = c.what_holds_of_an_applier_holds_with_one_thing_more.ensures.passes;
   });
 }
