@@ -9,7 +9,6 @@ use Rattle.scp_ledger.specs.declared.took.Took.{Took}
 use Rattle.scp_ledger.specs.CommandFates.{TellsFate}
 use Rattle.scp_ledger.specs.Journals.{Journals}
 use Rattle.scp_ledger.specs.Ledger.{IsRunning}
-use Rattle.scp_ledger.specs.Runs.{Taking, Leads}
 use Rattle.scp_ledger.specs.Seen.{LedgerView}
 use Rattle.scp_ledger.specs.Takes.{Takes}
 
@@ -29,7 +28,3 @@ module _ {D : Type 0} (says : Says D) where
   -- what holds of all that the slot stage took and gave on, and of its ledger
   abbrev pub JournalsBy : NodeId → QuorumTree → List NodeId → List Ready → List Onward → LedgerView D → Type 0
   JournalsBy me local peers took onwards v = Journals says.level says.extracted says.combined says.place me local peers took onwards v
-
-  -- each thing was taken by the ledger that the one before it left
-  abbrev pub LeadsBy : LedgerView D → List Taking → LedgerView D → Type 0
-  LeadsBy old takes new = Leads says.level says.extracted says.combined says.place old takes new
