@@ -23,7 +23,7 @@ which false = inr refl
 
 module _ {D : Type 0} (says : Says D) where
   -- the past says of an exchange that it failed the node: it did
-  failing : (c : Config) (p : Past) (old new : NodeView D) (event : Event) (reply : Reply) → p.failed ≡ false → (hears c p event reply).failed ≡ true → Step says old event reply new → IsFailure reply × Fails old event new
+  pub failing : (c : Config) (p : Past) (old new : NodeView D) (event : Event) (reply : Reply) → p.failed ≡ false → (hears c p event reply).failed ≡ true → Step says old event reply new → IsFailure reply × Fails old event new
   failing c p old new event JournalFull was now s = (tt, s.0)
   failing c p old new event NoMemory was now s = (tt, s.0)
   failing c p old new event Accepted was now s = absurd (true_isnt (sym now ∙ past-runs c p event ∙ was))

@@ -1,37 +1,63 @@
 -- The headline of a node: of one that runs, and of one that failed.
-use Rattle.std.specs.Prelude.{◌≡◌, true, List, [], ◌++◌, ◌⊎◌}
+use Rattle.std.specs.Prelude.{ℕ, ◌≡◌, true, false, List, [], ◌∷◌, ◌++◌, ◌⊎◌, Option, Some, None, drop, if◌then◌else◌}
+use Rattle.std.specs.List.{AllByRecursion}
 use Rattle.scp_driver.specs.Driver.{Says}
+use Rattle.scp_apply.specs.Applied.{made_of}
 use Rattle.scp_theorem.specs.Books.{books_of}
-use Rattle.scp_theorem.specs.Headline.{Books, Headline}
+use Rattle.scp_theorem.specs.Headline.{Books, HeadlineWithState}
+use Rattle.scp_core.specs.declared.event.Event.{Event}
+use Rattle.scp_core.specs.declared.event.Reply.{Reply}
+use Rattle.scp_core.specs.declared.event.Reply.TheVariants.{Failed}
 use Rattle.scp_core.specs.History.{Exchange}
 use Rattle.scp_core.specs.Ledger.{account_of, HoldsLedger}
-use Rattle.scp_core.specs.Node.{NodeView}
+use Rattle.scp_core.specs.Node.{NodeView, Step}
+use Rattle.scp_core.specs.Theorem.{made}
 
 module _ {D : Type 0} where
   -- the node's books, from the exchanges: what its events sent over its links, what it holds, and what it shows
   abbrev pub books_at : List Exchange → NodeView D → Books
   books_at past v = books_of (account_of past v [])
 
-  -- the node has failed since, and still shows the journal, the decisions and the applied list that it showed then
-  pub record ShowsStill (moment v : NodeView D) : Type 0 where
+  -- The state that a node shows: what the application makes of the applied values, one after another, from its first state on. A failed node
+  -- shows none.
+  abbrev pub state_shown : {S : Type 0} → S → (S → List ℕ → S) → NodeView D → Option S
+  state_shown start after' v = if v.failed then None else Some (made_of start after' v.applier.applied)
+
+  -- The node failed at the first of these exchanges, and answered Failed to all others. It still shows the journal, the decisions and the
+  -- applied list of the moment before.
+  pub record ShowsStill (later : List Exchange) (moment v : NodeView D) : Type 0 where
     pub failed : v.failed ≡ true
+    pub silent : AllByRecursion (λ x. x.1 ≡ Failed) (drop 1 later)
     pub journal : v.ledger.journal ≡ moment.ledger.journal
     pub decisions : v.ledger.decisions ≡ moment.ledger.decisions
     pub applied : v.applier.applied ≡ moment.applier.applied
 
-  -- The headline holds of the node's books after all exchanges; or, if the node failed, of its books at some moment, after a beginning of the
-  -- exchanges. Only `HoldsLedger` says that this is the moment before the step that failed it.
+module _ {D : Type 0} (IsStep : NodeView D → Event → Reply → NodeView D → Type 0) where
+  -- the exchanges lead from one node to the other: each is a step from what the one before it left
+  abbrev pub Leads : NodeView D → List Exchange → NodeView D → Type 0
+  Leads old [] new = new ≡ old
+  Leads old (x ∷ xs) new = (next : NodeView D) × IsStep old x.0 x.1 next × Leads next xs new
+
+module _ {D S : Type 0} (IsStep : NodeView D → Event → Reply → NodeView D → Type 0) (start : S) (after' : S → List ℕ → S) where
+  -- The headline holds of a node's books at a moment. The earlier exchanges led to that moment, step by step, from the node as it is made; the
+  -- later ones led from there to the node. The moment is now; or, if the node failed, it is before the step that failed it.
   pub record HoldsHeadline (past : List Exchange) (v : NodeView D) : Type 0 where
     pub earlier : List Exchange
     pub later : List Exchange
     pub past_is : past ≡ earlier ++ later
+    pub driver : D
     pub moment : NodeView D
-    pub is : ((later ≡ []) × (v ≡ moment)) ⊎ ShowsStill moment v
-    -- the first slot is slot 1
+    pub before : Leads IsStep (made driver v.config) earlier moment
+    pub since : Leads IsStep moment later v
+    pub runs : moment.failed ≡ false
+    pub is : (later ≡ []) ⊎ ShowsStill later moment v
+    -- it has the node's configuration, and its first slot is slot 1
+    pub config : moment.config ≡ v.config
     pub first : (books_at earlier moment).first ≡ 1
-    pub headline : Headline (books_at earlier moment)
+    -- the state is the one that the node shows now
+    pub headline : HeadlineWithState start after' (books_at earlier moment) (state_shown start after' v)
 
-module _ {D : Type 0} (says : Says D) where
+module _ {D S : Type 0} (says : Says D) (start : S) (after' : S → List ℕ → S) where
   -- a node that holds its ledger holds its headline
   abbrev pub LedgerGivesHeadline : Type 0
-  LedgerGivesHeadline = (past : List Exchange) (v : NodeView D) → HoldsLedger says past v → HoldsHeadline past v
+  LedgerGivesHeadline = (past : List Exchange) (v : NodeView D) → HoldsLedger says past v → HoldsHeadline (Step says) start after' past v

@@ -1,5 +1,8 @@
 -- Nodes whose values are operation lists (this project's profile): the definitions of nodes, over what that application says of values.
-use Rattle.std.specs.Prelude.{List}
+use Rattle.std.specs.Prelude.{List, Option}
+use Rattle.std.specs.FinMap as map
+use Rattle.scp_kv.specs.Map.{KvMap}
+use Rattle.scp_kv.specs.State.{after_value}
 use Rattle.scp_driver.specs.declared.kv_driver.KvDriver.{KvDriver}
 use Rattle.scp_driver.specs.Kv.{kv_says}
 use Rattle.scp_core.specs.declared.config.Config.{Config}
@@ -53,9 +56,17 @@ HoldsLedger past v = ledger.HoldsLedger kv_says past v
 abbrev pub TheoremGivesLedger : Type 0
 TheoremGivesLedger = ledger.TheoremGivesLedger kv_says
 
+-- the state that such a node shows: what the applied operation lists make of the empty map; a failed node shows none
+abbrev pub state_shown : NodeView → Option KvMap
+state_shown v = headline.state_shown map.empty after_value v
+
+-- the headline of such a node, with its state
+abbrev pub HoldsHeadline : List Exchange → NodeView → Type 0
+HoldsHeadline past v = headline.HoldsHeadline (node.Step kv_says) map.empty after_value past v
+
 -- a node that holds its ledger holds its headline
 abbrev pub LedgerGivesHeadline : Type 0
-LedgerGivesHeadline = headline.LedgerGivesHeadline kv_says
+LedgerGivesHeadline = headline.LedgerGivesHeadline kv_says map.empty after_value
 
 -- the same events give the same replies
 abbrev pub SameEventsSameReplies : Type 0

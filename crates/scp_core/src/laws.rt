@@ -12,7 +12,7 @@ use scp_apply::{
     what_holds_of_an_applier_holds_with_one_thing_more, what_is_applied_is_a_function,
 };
 use scp_ballot_rules::the_rules_are_a_function;
-use scp_driver::Driver;
+use scp_driver::{Application, Driver};
 use scp_envelope::newer_is_an_order;
 use scp_ledger::{a_beginning_keeps_the_window, what_holds_of_a_ledger_holds_with_one_thing_more};
 use scp_nominate::an_input_is_a_function;
@@ -56,11 +56,11 @@ pub fn each_node_holds_its_ledger<D: Driver + Drop + Copy>()
     what_holds_of_an_applier_holds_with_one_thing_more();
 }
 
-/// A node that holds its ledger holds its headline: what was sent to it, what it holds and what it shows.
-pub fn each_node_holds_its_headline<D: Driver + Drop + Copy>()
-    ensures headline { LedgerGivesHeadline D.says }
+/// A node that holds its ledger holds its headline: what was sent to it, what it holds, what it shows, and its state.
+pub fn each_node_holds_its_headline<A: Application + Drop + Copy>()
+    ensures headline { LedgerGivesHeadline A.says A.first A.after }
 {
-    what_keeps_the_ledger_keeps_the_headline::<D>();
+    what_keeps_the_ledger_keeps_the_headline::<A>();
 }
 
 /// Each step leaves why the node failed as it was, or is the one that failed it, and says why.

@@ -4,19 +4,23 @@ ghost use Rattle.scp_types.specs.declared.limits.TheConstants.{WINDOW};
 ghost use Rattle.scp_ledger.specs.declared.journal.Fate.{Fate};
 ghost use Rattle.scp_pending.specs.Line.{count_held};
 ghost use Rattle.scp_ledger.specs.Timers.{AreTimers};
-ghost use Rattle.scp_apply.specs.Applied.{made_of, value_of};
+ghost use Rattle.scp_apply.specs.Applied.{value_of};
 ghost use Rattle.scp_core.specs.Config.{IsConfig, IsConfigOfMany, IsConfigWithin, IsFitWithin, are_apart};
 ghost use Rattle.scp_core.specs.History.{peer_at, Exchange};
 ghost use Rattle.scp_core.specs.Node.{Step, Keeps, LeavesRoom, fault_after, HasLink, lives_at, room_at, queued_at, accepts_at, item_at, has_read_at};
 ghost use Rattle.scp_outbox.specs.Handing.{waiting_at, overwritten_at};
 ghost use Rattle.scp_core.specs.Theorem.{LedgerTheorem};
+ghost use Rattle.scp_core.specs.Headline.{HoldsHeadline, state_shown};
 ghost use Rattle.scp_core.specs.inside.Starting.{IsNew};
 
 use crate::config::{Config, Peers, are_peers_apart, has_peer};
 use crate::decider::Decider;
 use crate::event::{Event, Reply};
 use crate::handing::{draw, hand_out};
-use crate::laws::what_holds_of_a_past_holds_with_one_step_more;
+use crate::laws::{
+    each_node_holds_its_headline, each_node_holds_its_ledger,
+    what_holds_of_a_past_holds_with_one_step_more,
+};
 use crate::link::{self, Link};
 use crate::queue;
 use circular_buffer::HeapCircularBuffer;
@@ -93,6 +97,8 @@ impl<A: Application + Drop + Copy> Node<A> {
     pub fn new(alloc: Global, config: Config, application: A) -> Result<Node<A>, Fault>
         // What holds of a list of events holds of the empty list.
         ensures theorem { IfOk result (λ node. LedgerTheorem A.says [] node) }
+        // So does the headline, with the state.
+        ensures headline { IfOk result (λ node. HoldsHeadline (Step A.says) A.first A.after [] node) }
         ensures config { IfOk result (λ node. node.config ≡ config) }
         ensures application { IfOk result (λ node. node.ledger.driver ≡ application) }
         ensures refused { result ≡ Err Fault.BadConfig ↔ ¬ (IsConfig config) }
@@ -104,6 +110,7 @@ impl<A: Application + Drop + Copy> Node<A> {
     /// A node as `new` makes it, but of up to a hundred peers instead of seven.
     pub fn of_many(alloc: Global, config: Config, application: A) -> Result<Node<A>, Fault>
         ensures theorem { IfOk result (λ node. LedgerTheorem A.says [] node) }
+        ensures headline { IfOk result (λ node. HoldsHeadline (Step A.says) A.first A.after [] node) }
         ensures config { IfOk result (λ node. node.config ≡ config) }
         ensures application { IfOk result (λ node. node.ledger.driver ≡ application) }
         ensures refused { result ≡ Err Fault.BadConfig ↔ ¬ (IsConfigOfMany config) }
@@ -116,12 +123,15 @@ impl<A: Application + Drop + Copy> Node<A> {
     fn made(alloc: Global, config: Config, application: A, most: usize) -> Result<Node<A>, Fault>
         requires { most ≤ LINK_LIMIT }
         ensures theorem { IfOk result (λ node. LedgerTheorem A.says [] node) }
+        ensures headline { IfOk result (λ node. HoldsHeadline (Step A.says) A.first A.after [] node) }
         ensures config { IfOk result (λ node. node.config ≡ config) }
         ensures application { IfOk result (λ node. node.ledger.driver ≡ application) }
         ensures refused { result ≡ Err Fault.BadConfig ↔ ¬ (IsConfigWithin most config) }
         ensures only { IfErr result (λ f. (f ≡ Fault.BadConfig) ⊎ (f ≡ Fault.NoMemory)) }
     {
         what_holds_of_a_ledger_holds_with_one_thing_more::<A>();
+        each_node_holds_its_ledger::<A>();
+        each_node_holds_its_headline::<A>();
         let Config {
             me,
             set,
@@ -237,7 +247,7 @@ impl<A: Application + Drop + Copy> Node<A> {
 
     /// The state that the applied values make, one after another, from the application's first state; `None` once the node has failed.
     pub fn state(&self) -> Option<&A::State>
-        ensures { option_copied result ≡ (if self.now.failed then None else Some (made_of A.first A.after self.now.applier.applied)) }
+        ensures { option_copied result ≡ state_shown A.first A.after self.now }
     {
         self.decider.state()
     }
@@ -435,6 +445,8 @@ impl<A: Application + Drop + Copy> Node<A> {
         ensures step { Step A.says self.old event result self.new }
         // What holds of every list of events, of their replies and of the node.
         ensures theorem { (past : List Exchange) → LedgerTheorem A.says past self.old → LedgerTheorem A.says (past ++ (event, result) ∷ []) self.new }
+        // So does the headline, with the state.
+        ensures headline { (past : List Exchange) → LedgerTheorem A.says past self.old → HoldsHeadline (Step A.says) A.first A.after (past ++ (event, result) ∷ []) self.new }
         // A refusal leaves the node as it was.
         ensures same { result ≢ Reply.Accepted → result ≢ Reply.Moved → result ≢ Reply.JournalFull → result ≢ Reply.NoMemory → ((bytes : List ℕ) → result ≢ Reply.Sent bytes) → self.new ≡ self.old }
         // A node that fails keeps its journal, its decisions, the links it asked, what is applied, and how often each link was opened.
@@ -451,6 +463,8 @@ impl<A: Application + Drop + Copy> Node<A> {
         ensures config { self.new.config ≡ self.old.config }
     {
         what_holds_of_a_past_holds_with_one_step_more::<A>();
+        each_node_holds_its_ledger::<A>();
+        each_node_holds_its_headline::<A>();
         self.perform(event)
     }
 

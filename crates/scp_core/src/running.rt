@@ -2,6 +2,7 @@
 ghost use Rattle.std.specs.Prelude.{◌≡◌, ◌↔◌, ◌⊎◌, [], IfOk, IfErr, OnOk, IsOkUnless, zip, length, Err};
 ghost use Rattle.scp_core.specs.Ledger.{HoldsLedger};
 ghost use Rattle.scp_core.specs.Headline.{HoldsHeadline};
+ghost use Rattle.scp_core.specs.Node.{Step};
 ghost use Rattle.scp_core.specs.Theorem.{LedgerTheorem};
 ghost use Rattle.scp_core.specs.Config.{IsConfig};
 ghost use Rattle.scp_core.specs.inside.Starting.{Answers};
@@ -27,8 +28,8 @@ pub fn run<A: Application + Drop + Copy>(
     ensures theorem { IfOk result (λ run. LedgerTheorem A.says (zip events.now run.replies.items) run.node) }
     // So the node holds its ledger, for these events and replies.
     ensures ledger { IfOk result (λ run. HoldsLedger A.says (zip events.now run.replies.items) run.node) }
-    // And the node holds its headline, which says what matters most of that.
-    ensures headline { IfOk result (λ run. HoldsHeadline (zip events.now run.replies.items) run.node) }
+    // And the node holds its headline, which says what matters most of that, and what its state is.
+    ensures headline { IfOk result (λ run. HoldsHeadline (Step A.says) A.first A.after (zip events.now run.replies.items) run.node) }
     ensures count { IfOk result (λ run. length run.replies.items ≡ length events.now) }
     ensures config { IfOk result (λ run. run.node.config ≡ config) }
     ensures refused { result ≡ Err Fault.BadConfig ↔ ¬ (IsConfig config) }

@@ -1,6 +1,6 @@
 //! The host of a node: it tells the node what comes, and carries what goes out.
-ghost use Rattle.std.specs.Prelude.{◌≡◌, true, Some, None, if◌then◌else◌};
-ghost use Rattle.scp_apply.specs.Applied.{made_of};
+ghost use Rattle.std.specs.Prelude.{◌≡◌, true};
+ghost use Rattle.scp_core.specs.Headline.{state_shown};
 ghost use Rattle.scp_turn.specs.Episode.{IsOfHost};
 ghost use Rattle.scp_counter_example.specs.inside.Counter.{after_number};
 
@@ -127,7 +127,7 @@ impl Host {
 
     /// The count: what the applied numbers make of 0, one after another. None of a node that failed.
     pub fn count(&self) -> Option<u64>
-        ensures { result ≡ (if self.now.node.failed then None else Some (made_of 0 after_number self.now.node.applier.applied)) }
+        ensures { result ≡ state_shown 0 after_number self.now.node }
     {
         self.node.state().copied()
     }

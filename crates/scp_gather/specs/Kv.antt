@@ -1,10 +1,12 @@
 -- What the threads of a node left, if its values are operation lists (this project's profile).
 use Rattle.std.specs.Prelude.{List}
+use Rattle.std.specs.FinMap as finite
 use Rattle.scp_types.specs.declared.names.NodeId.{NodeId}
 use Rattle.scp_quorum.specs.QuorumTree.{QuorumTree}
 use Rattle.scp_driver.specs.declared.kv_driver.KvDriver.{KvDriver}
 use Rattle.scp_driver.specs.Kv.{kv_says}
 use Rattle.scp_kv.specs.Map.{KvMap}
+use Rattle.scp_kv.specs.State.{after_value}
 use Rattle.scp_wire.specs.declared.carried.Carried.{Carried}
 use Rattle.scp_ledger.specs.declared.journal.Decision.{Decision}
 use Rattle.scp_ledger.specs.declared.journal.Fate.{Fate}
@@ -43,6 +45,10 @@ AreFatesOf me set peers e fates = report.AreFatesOf kv_says me set peers e fates
 -- its stages put into each link's outbox what they handed out for the link
 abbrev pub ArePutOut : NodeId → QuorumTree → List NodeId → Left → Type 0
 ArePutOut me set peers e = sending.ArePutOut kv_says me set peers e
+
+-- the headline holds of its report, with its state: what the applied operation lists make of the empty map
+abbrev pub IsReportHeadlined : NodeId → QuorumTree → List NodeId → Left → NodeReport → Type 0
+IsReportHeadlined me set peers e r = headline.IsReportHeadlined finite.empty after_value me set peers e r
 
 -- the headline holds of a node's report
 abbrev pub ReportsKeepHeadline : Type 0

@@ -12,10 +12,9 @@ ghost use Rattle.scp_pending.specs.Messages.{AreParked, message_cmp};
 ghost use Rattle.scp_pending.specs.Pends.{Pends};
 ghost use Rattle.scp_ends.specs.Links.{LinkEnd};
 ghost use Rattle.scp_apply.specs.Applied.{made_of};
-ghost use Rattle.scp_theorem.specs.Headline.{Headline};
 ghost use Rattle.scp_workers.specs.Reading.{ReaderEnd};
 ghost use Rattle.scp_gather.specs.Node.{IsNode, IsReadOut, EndWell};
-ghost use Rattle.scp_gather.specs.Headline.{books_reported};
+ghost use Rattle.scp_gather.specs.Headline.{IsReportHeadlined};
 ghost use Rattle.scp_gather.specs.Sending.{ArePutOut};
 ghost use Rattle.scp_gather.specs.Report.{IsJoined, AreJoinedTo, AreJoined, first_failed, IsReportOf, AreFatesOf, AreCame, AreKept, keeps_by};
 ghost use Rattle.scp_gather.specs.inside.Kept.{kept_by};
@@ -184,8 +183,8 @@ fn told<A: Application + Drop + Copy>(
 pub fn gather<A: Application + Drop + Copy>(ends: Ends<A>) -> Result<Gathering<A>, Fault>
     requires joined { AreJoined ends }
     ensures theorem { (me : NodeId) → (set : QuorumTree) → (peers : List NodeId) → IsNode me set peers ends → IfOk result (λ r. IsReportOf A.says me set peers ends r.report.journal.items r.report.parked.items r.report.applied.items) }
-    // The headline, which says what matters most of that.
-    ensures headline { (me : NodeId) → (set : QuorumTree) → (peers : List NodeId) → IsNode me set peers ends → IfOk result (λ r. Headline (books_reported me set peers ends r.report.journal.items r.report.applied.items)) }
+    // The headline, which says what matters most of that, and what the state is.
+    ensures headline { (me : NodeId) → (set : QuorumTree) → (peers : List NodeId) → IsNode me set peers ends → IfOk result (λ r. IsReportHeadlined A.first A.after me set peers ends r.report) }
     // The state is what the application makes of the applied values, one after another.
     ensures state { IfOk result (λ r. r.report.state ≡ made_of A.first A.after r.report.applied.items) }
     // What became of the node's own commands.

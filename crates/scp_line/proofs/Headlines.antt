@@ -3,12 +3,11 @@ use Rattle.std.proofs.Common.{◌≡◌, ◌+◌, ◌∙◌, ℕ, List, [], get_
 use Rattle.scp_turn.specs.scp_core.specs.Kv.{LedgerGivesHeadline, TheoremGivesLedger}
 use Rattle.scp_turn.specs.Heard.{past_at}
 use Rattle.scp_turn.specs.Network.{NetworkView}
-use Rattle.scp_threaded_script.specs.scp_gather.specs.Kv.{NodeReport, ReportsKeepHeadline, Left}
+use Rattle.scp_threaded_script.specs.scp_gather.specs.Kv.{NodeReport, Left}
 use Rattle.scp_threaded_script.specs.scp_threaded_node.specs.Seats.{Each}
 use Rattle.scp_threaded_script.specs.Reported.{AreNodesReported, AreSoReported}
 use Rattle.scp_script.specs.declared.command.Command.{Command}
-use Rattle.scp_script.specs.Nodes.{id_of, peers_of, set_at}
-use Rattle.scp_script.specs.Script.{commands_in, node_count}
+use Rattle.scp_script.specs.Script.{commands_in}
 use Rattle.scp_line.specs.Headlines.{AreHeadlined, AreNodesHeadlined, AreReportsHeadlined, IsHeadlined, AreGatheredHeadlined, PlayingKeepsHeadlines, ReportingKeepsHeadlines}
 use Rattle.scp_line.specs.inside.Nodes.{IsPlayed}
 use Rattle.scp_line.specs.Left.{reports_left}
@@ -33,8 +32,8 @@ are_headlined law text printed commands network same played is = record {
 
 -- ---- in threads
 
-headlines_at : ReportsKeepHeadline → (commands : List Command) (lefts : List Left) (nodes : List NodeReport) → AreSoReported commands lefts nodes → Each (λ i r. IsHeadlined commands (i + 1) r) nodes
-headlines_at law commands lefts nodes are = λ i r at.
+headlines_at : (commands : List Command) (lefts : List Left) (nodes : List NodeReport) → AreSoReported commands lefts nodes → Each (λ i r. IsHeadlined commands (i + 1) r) nodes
+headlines_at commands lefts nodes are = λ i r at.
     let one = are i r at in
     let is = one.2 in
     let ended = is.ended in
@@ -44,12 +43,11 @@ headlines_at law commands lefts nodes are = λ i r at.
       stood_are = is.stood_are;
       links_count = ended.links_count;
       links_are = ended.links_are;
-      headline = law (id_of (i + 1)) (set_at (i + 1) commands) (peers_of (node_count commands) (i + 1)) one.0 r.journal.items r.parked.items r.applied.items ended.report;
-      state_is = ended.state_is;
+      headline = ended.headline;
     }
 
-pub are_reports_headlined : ReportsKeepHeadline → ReportingKeepsHeadlines
-are_reports_headlined law commands nodes reported = record { count = reported.count; headlines = headlines_at law commands reported.lefts nodes reported.reported }
+pub are_reports_headlined : ReportingKeepsHeadlines
+are_reports_headlined commands nodes reported = record { count = reported.count; headlines = headlines_at commands reported.lefts nodes reported.reported }
 
 pub are_gathered_headlined : ReportingKeepsHeadlines → (script text : List ℕ) (commands : List Command) (nodes : List NodeReport) → commands ≡ commands_in script → AreNodesReported commands nodes → text ≡ settled_text (reports_left commands nodes []) commands → AreGatheredHeadlined script text
 are_gathered_headlined law script text commands nodes same reported reports = record {

@@ -1,14 +1,9 @@
 -- The headline holds for each node that a script's text reports: for nodes that run one step at a time, and for nodes whose stages run in
 -- threads.
 use Rattle.std.specs.Prelude.{ℕ, ◌+◌, ◌<◌, ◌≡◌, List, [], get_or, length}
-use Rattle.scp_kv.specs.State.{fold_of}
-use Rattle.scp_apply.specs.Applied.{values_of}
-use Rattle.scp_theorem.specs.Headline.{Headline}
-use Rattle.scp_turn.specs.scp_core.specs.Headline.{HoldsHeadline}
-use Rattle.scp_turn.specs.scp_core.specs.Kv.{NodeView}
+use Rattle.scp_turn.specs.scp_core.specs.Kv.{NodeView, HoldsHeadline}
 use Rattle.scp_turn.specs.Heard.{Heard, Nodes, past_at}
-use Rattle.scp_threaded_script.specs.scp_gather.specs.Kv.{NodeReport, Left}
-use Rattle.scp_threaded_script.specs.scp_gather.specs.Headline.{books_reported}
+use Rattle.scp_threaded_script.specs.scp_gather.specs.Kv.{NodeReport, Left, IsReportHeadlined}
 use Rattle.scp_threaded_script.specs.scp_threaded_node.specs.declared.ending.Stood.{Stood}
 use Rattle.scp_threaded_script.specs.scp_threaded_node.specs.Ended.{AreSentBy}
 use Rattle.scp_threaded_script.specs.scp_threaded_node.specs.Seats.{Each}
@@ -35,16 +30,15 @@ pub record AreHeadlined (script text : List ℕ) : Type 0 where
   pub each : AreNodesHeadlined (commands_in script) nodes
   pub reports : text ≡ settled_text (reports_of nodes) (commands_in script)
 
--- The headline holds for the node of this number, with books that show what its report shows. Each link that the script drives carried what
--- the lines put on it; each other link carried what a courier sent. The node's state is what the applied values make.
+-- The headline holds for the node of this number, with books that show what its report shows, and so does what it says of the state. Each link
+-- that the script drives carried what the lines put on it; each other link carried what a courier sent.
 pub record IsHeadlined (commands : List Command) (number : ℕ) (r : NodeReport) : Type 0 where
   pub left : Left
   pub stood : List Stood
   pub stood_are : AreStood commands number stood
   pub links_count : length left.links ≡ length (peers_of (node_count commands) number)
   pub links_are : AreSentBy (driven_to commands number) (items_to number commands) stood left.links
-  pub headline : Headline (books_reported (id_of number) (set_at number commands) (peers_of (node_count commands) number) left r.journal.items r.applied.items)
-  pub state_is : r.state ≡ fold_of (values_of r.applied.items)
+  pub headline : IsReportHeadlined (id_of number) (set_at number commands) (peers_of (node_count commands) number) left r
 
 -- There is one report for each node of the script, from node 1 on, and the headline holds for each of them.
 pub record AreReportsHeadlined (commands : List Command) (nodes : List NodeReport) : Type 0 where

@@ -3,7 +3,6 @@ ghost use Rattle.scp_line.specs.Commands.{LinesAreGiven, FatesAreOfTheirLines, R
 ghost use Rattle.scp_line.specs.Headlines.{PlayingKeepsHeadlines, ReportingKeepsHeadlines};
 ghost use Rattle.scp_line.specs.Laws.{LinesHaveRoom};
 
-use scp_threaded_script::what_is_reported_keeps_the_headline;
 use scp_turn::{
     KvDriver, each_command_is_taken_in_its_turn, each_node_holds_its_headline,
     each_node_holds_its_ledger,
@@ -22,7 +21,6 @@ pub fn what_is_played_keeps_the_headlines()
 {
     each_node_holds_its_ledger::<KvDriver>();
     each_node_holds_its_headline::<KvDriver>();
-    what_is_reported_keeps_the_headline::<KvDriver>();
 }
 
 /// A command's fate is that of its own line. The commands that a script's node was given are those of its lines, in their order, but for the

@@ -48,6 +48,7 @@ accounts_for {L} holds settings written longer log u v on header text line is sa
   node = v;
   text = text;
   account = subst (λ (h : List ℕ). IsAccountOf holds h on u g.heard v text) is g.is;
+  ledger = ledger g.heard v.node (g.theorem [] new.theorem);
   headline = headline g.heard v.node (ledger g.heard v.node (g.theorem [] new.theorem));
   told = subst (λ (t : List ℕ). Gains written t longer) same told;
 }

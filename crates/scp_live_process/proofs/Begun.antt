@@ -12,12 +12,13 @@ use Rattle.scp_live_process.specs.Starting.{HasRun, RunsAs}
 use Rattle.scp_live_process.proofs.Configs.{steps_keep_the_config}
 use Rattle.scp_live_process.proofs.Going.{Seen}
 
--- what ran from a new node holds its headline, and a watch was told of each step
+-- what ran from a new node holds its ledger and its headline, and a watch was told of each step
 pub runs_as : {L W : Type 0} (Note : Noting W) (w z : W) (holds may_leave : L → List ℕ → Type 0) (r : Result (Unit {0}) LogFault) (settings : Settings) (left written longer : Option (List ℕ)) (log : L) (u v : LiveView) (empty kept : Kept L) (header : List ℕ) → header ≡ header_of (digest_of settings) → IsNew settings u → empty.log ≡ log → TheoremGivesLedger → LedgerGivesHeadline
     → Seen Note w z u.node v.node (λ heard. OnOk r (HasRun holds may_leave header left written longer empty kept u heard v))
     → OnOk r ((runs : RunsAs holds may_leave settings left written longer log) × Watched Note 1 w runs.begun.node runs.heard runs.node.node z)
 runs_as Note w z holds may_leave (Ok x) settings left written longer log u v empty kept header is new on ledger headline g =
-    let theorem = g.theorem [] new.theorem in (
+    let theorem = g.theorem [] new.theorem in
+    let holds_ledger = ledger g.heard v.node theorem in (
       record {
         begun = u;
         is_new = new;
@@ -29,7 +30,8 @@ runs_as Note w z holds may_leave (Ok x) settings left written longer log u v emp
         ran = subst (λ (h : List ℕ). HasRun holds may_leave h left written longer empty kept u g.heard v) is g.is.1;
         config = steps_keep_the_config g.heard u.node v.node g.does;
         theorem = theorem;
-        headline = headline g.heard v.node (ledger g.heard v.node theorem);
+        ledger = holds_ledger;
+        headline = headline g.heard v.node holds_ledger;
       },
       g.is.0,
     )

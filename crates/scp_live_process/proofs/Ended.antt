@@ -45,13 +45,14 @@ unmade settings f only =
     (λ (bad : (f ≡ BadConfig) × ¬ (IsConfigOfMany (config_in settings))). inr (ap (λ (x : Fault). Failed x) bad.0, bad.1))
     only
 
--- what stopped from a new node holds its headline
+-- what stopped from a new node holds its ledger and its headline
 pub stops_as : {L : Type 0} (holds may_leave : L → List ℕ → Type 0) (faults : L → ℕ) (r : Result (Unit {0}) LogFault) (settings : Settings) (before after' : Streams) (log : L) (u v : LiveView) (empty kept : Kept L) (header : List ℕ) → header ≡ header_of (digest_of settings) → IsNew settings u → empty.log ≡ log → TheoremGivesLedger → LedgerGivesHeadline
     → Heard u.node v.node (λ heard. IfErr r (StopsBy holds may_leave faults header before after' empty kept u heard v))
     → IfErr r (Stops holds may_leave faults settings before after' log)
 stops_as holds may_leave faults (Ok x) settings before after' log u v empty kept header is new on ledger headline g = tt
 stops_as holds may_leave faults (Err f) settings before after' log u v empty kept header is new on ledger headline g =
     let theorem = g.theorem [] new.theorem in
+    let holds_ledger = ledger g.heard v.node theorem in
     inr (record {
       begun = u;
       is_new = new;
@@ -62,7 +63,8 @@ stops_as holds may_leave faults (Err f) settings before after' log u v empty kep
       node = v;
       stops = subst (λ (h : List ℕ). StopsBy holds may_leave faults h before after' empty kept u g.heard v f) is g.is;
       theorem = theorem;
-      headline = headline g.heard v.node (ledger g.heard v.node theorem);
+      ledger = holds_ledger;
+      headline = headline g.heard v.node holds_ledger;
     })
 
 -- what is reported of a configuration, where nothing was read

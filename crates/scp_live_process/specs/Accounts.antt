@@ -1,7 +1,7 @@
 -- The account of a node that runs as a process, made from its log (this project's profile).
 use Rattle.std.specs.Prelude.{ℕ, ◌≡◌, List, [], ◌∷◌, ◌++◌, Option}
 use Rattle.scp_turn.specs.scp_core.specs.History.{Exchange}
-use Rattle.scp_turn.specs.scp_core.specs.Headline.{HoldsHeadline}
+use Rattle.scp_turn.specs.scp_core.specs.Kv.{HoldsLedger, HoldsHeadline}
 use Rattle.scp_device.specs.Device.{Gains}
 use Rattle.scp_turn.specs.Kv.{Watched}
 use Rattle.scp_live_log.specs.declared.kept.Kept.{Kept}
@@ -27,8 +27,8 @@ pub record IsAccountOf {L : Type 0} (holds : L → List ℕ → Type 0) (header 
   pub noted : Watched Keeps 1 [] old.node heard new.node kept
   pub is : text ≡ account_text ways.Serial (reports_of (new.node ∷ [])) kept
 
--- The account of a node with these settings was written. From the newly made node on, it played what the log says. The headline holds of
--- all that it received and replied.
+-- The account of a node with these settings was written. From the newly made node on, it played what the log says. It holds its ledger and its
+-- headline, for all that it received and replied.
 pub record AccountsFor {L : Type 0} (holds : L → List ℕ → Type 0) (settings : Settings) (written longer : Option (List ℕ)) (log : L) : Type 0 where
   pub begun : LiveView
   pub is_new : IsNew settings begun
@@ -38,6 +38,7 @@ pub record AccountsFor {L : Type 0} (holds : L → List ℕ → Type 0) (setting
   pub node : LiveView
   pub text : List ℕ
   pub account : IsAccountOf holds (header_of (digest_of settings)) on begun heard node text
+  pub ledger : HoldsLedger heard node.node
   pub headline : HoldsHeadline heard node.node
   pub told : Gains written text longer
 

@@ -6,8 +6,7 @@ use Rattle.scp_types.specs.declared.fault.Fault.TheVariants.{NoMemory, TooLong, 
 use Rattle.scp_device.specs.Device.{Fails, Gains, GainsPart}
 use Rattle.scp_turn.specs.scp_core.specs.Config.{IsConfigOfMany}
 use Rattle.scp_turn.specs.scp_core.specs.History.{Exchange}
-use Rattle.scp_turn.specs.scp_core.specs.Kv.{LedgerTheorem}
-use Rattle.scp_turn.specs.scp_core.specs.Headline.{HoldsHeadline}
+use Rattle.scp_turn.specs.scp_core.specs.Kv.{LedgerTheorem, HoldsLedger, HoldsHeadline}
 use Rattle.scp_turn.specs.Turn.{links_of}
 use Rattle.scp_live.specs.scp_turn.specs.Episode.{finds_full}
 use Rattle.scp_live_log.specs.declared.kept.Kept.{Kept}
@@ -139,7 +138,7 @@ StopsBy holds may_leave faults header before after' log log' old heard new fault
     × (IsUnstarted holds may_leave faults header before after' log log' old heard new fault
     ⊎ (IsUngreeted holds may_leave header before after' log log' old heard new fault ⊎ IsUnserved holds may_leave faults header before after' log log' old heard fault))
 
--- A node with these settings stopped by this fault. The headline holds of all that it received and replied.
+-- A node with these settings stopped by this fault. It holds its ledger and its headline, for all that it received and replied.
 pub record StopsAs {L : Type 0} (holds may_leave : L → List ℕ → Type 0) (faults : L → ℕ) (settings : Settings) (before after' : Streams) (log : L) (fault : LogFault) : Type 0 where
   pub begun : LiveView
   pub is_new : IsNew settings begun
@@ -150,6 +149,7 @@ pub record StopsAs {L : Type 0} (holds may_leave : L → List ℕ → Type 0) (f
   pub node : LiveView
   pub stops : StopsBy holds may_leave faults (header_of (digest_of settings)) before after' empty kept begun heard node fault
   pub theorem : LedgerTheorem heard node.node
+  pub ledger : HoldsLedger heard node.node
   pub headline : HoldsHeadline heard node.node
 
 -- No node was made: there was no memory for it, or no node can have these settings. Nothing was read or written.

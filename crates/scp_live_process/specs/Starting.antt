@@ -2,8 +2,7 @@
 use Rattle.std.specs.Prelude.{ℕ, ◌≡◌, List, ◌++◌, length, codes, Option}
 use Rattle.std.specs.Fmt.{decimal}
 use Rattle.scp_turn.specs.scp_core.specs.History.{Exchange}
-use Rattle.scp_turn.specs.scp_core.specs.Kv.{LedgerTheorem}
-use Rattle.scp_turn.specs.scp_core.specs.Headline.{HoldsHeadline}
+use Rattle.scp_turn.specs.scp_core.specs.Kv.{LedgerTheorem, HoldsLedger, HoldsHeadline}
 use Rattle.scp_device.specs.Device.{Gains}
 use Rattle.scp_live_log.specs.declared.kept.Kept.{Kept}
 use Rattle.scp_live_log.specs.Kept.{IsRecovered, IsAllAndMore}
@@ -53,7 +52,7 @@ pub record HasRun {L : Type 0} (holds may_leave : L → List ℕ → Type 0) (he
   pub greets : Gains written (greeting count started) greeted
   pub served : HasServed holds may_leave left greeted longer ready log' started heard_next new
 
--- A node with these settings ran until its input ended. The headline holds of all that it received and replied.
+-- A node with these settings ran until its input ended. It holds its ledger and its headline, for all that it received and replied.
 pub record RunsAs {L : Type 0} (holds may_leave : L → List ℕ → Type 0) (settings : Settings) (left written longer : Option (List ℕ)) (log : L) : Type 0 where
   pub begun : LiveView
   pub is_new : IsNew settings begun
@@ -65,6 +64,7 @@ pub record RunsAs {L : Type 0} (holds may_leave : L → List ℕ → Type 0) (se
   pub ran : HasRun holds may_leave (header_of (digest_of settings)) left written longer empty kept begun heard node
   pub config : node.node.config ≡ begun.node.config
   pub theorem : LedgerTheorem heard node.node
+  pub ledger : HoldsLedger heard node.node
   pub headline : HoldsHeadline heard node.node
 
 -- The text is a configuration, and a node with it ran until its input ended.

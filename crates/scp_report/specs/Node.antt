@@ -1,13 +1,10 @@
 -- The record of a node that takes one step after another, in a script or live.
-use Rattle.std.specs.Prelude.{ℕ, ◌+◌, List, [], ◌∷◌, Option, Some, None, take, if◌then◌else◌}
+use Rattle.std.specs.Prelude.{ℕ, ◌+◌, List, [], ◌∷◌, take}
 use Rattle.scp_types.specs.declared.limits.TheConstants.{LINK_LIMIT}
 use Rattle.scp_types.specs.declared.names.NodeId.{NodeId}
-use Rattle.scp_kv.specs.Map.{KvMap}
-use Rattle.scp_kv.specs.State.{fold_of}
 use Rattle.scp_outbox.specs.Outbox.{OutboxView}
 use Rattle.scp_outbox.specs.Handing.{waiting_at, overwritten_at}
-use Rattle.scp_apply.specs.Applied.{values_of}
-use Rattle.scp_core.specs.Kv.{NodeView}
+use Rattle.scp_core.specs.Kv.{NodeView, state_shown}
 use Rattle.scp_report.specs.declared.report.LinkReport.{LinkReport}
 use Rattle.scp_report.specs.Report.{ReportView, entries_of}
 use Rattle.scp_report.specs.Waiting.{parked_in}
@@ -16,10 +13,6 @@ use Rattle.scp_report.specs.Waiting.{parked_in}
 abbrev pub links_behind : List OutboxView → ℕ → List NodeId → List LinkReport
 links_behind outboxes link [] = []
 links_behind outboxes link (peer ∷ peers) = record { peer = peer; overwritten = overwritten_at outboxes link; waiting = waiting_at outboxes link } ∷ links_behind outboxes (link + 1) peers
-
--- The state that a node's applied values make; none if the node has failed.
-abbrev pub running_state : NodeView → Option KvMap
-running_state node = if node.failed then None else Some (fold_of (values_of node.applier.applied))
 
 -- the record of the node of this number
 abbrev pub report_of : ℕ → NodeView → ReportView
@@ -32,7 +25,7 @@ report_of number node = record {
   parked = parked_in node;
   decisions = node.ledger.decisions;
   applied = node.applier.applied;
-  state = entries_of (running_state node);
+  state = entries_of (state_shown node);
   messages = [];
   commands = [];
   came = [];

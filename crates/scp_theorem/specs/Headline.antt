@@ -28,7 +28,7 @@ use Rattle.scp_apply.specs.scp_ledger.specs.Certificate.{IsCertificate}
 use Rattle.scp_apply.specs.scp_ledger.specs.Decisions.{OnePerSlot}
 use Rattle.scp_apply.specs.scp_ledger.specs.Journal.{newest}
 use Rattle.scp_apply.specs.scp_ledger.specs.Marks.{marks_of}
-use Rattle.scp_apply.specs.Applied.{AreInOrder}
+use Rattle.scp_apply.specs.Applied.{AreInOrder, made_of}
 use Rattle.scp_theorem.specs.Fates.{Fates, conn_of, IsOfLink}
 
 -- a message that waits for a quorum set, or behind one that does, with its number on its connection
@@ -118,7 +118,7 @@ RestsOn b d (Named conn seq) = (beside : Option SharedSet) × Contains b.journal
 -- ---- the headline
 
 -- Each message that was sent has at most one fate, in the order of its slot, and none is lost. What is decided is applied, in the order of the
--- slots. The state that this makes is promised where it is read: it is what the application makes of the applied values, one after another.
+-- slots.
 pub record Headline (b : Books) : Type 0 where
   -- each link's connections: their messages have at most one fate each, in order, and nothing is lost; nothing else has a fate
   pub fates : (l : ℕ) → (peer : NodeId) → slice_get b.peers l ≡ Some peer → (life : ℕ) → HasFates b l (conn_at peer b.me life)
@@ -133,3 +133,9 @@ pub record Headline (b : Books) : Type 0 where
   -- the slots from the first on are applied, once each and in order, each with its decision
   pub in_order : AreInOrder b.first b.applied
   pub decided : All (Contains b.decisions) b.applied
+
+-- The headline, and the state that is read, if one is: it is what the application makes of the applied values, one after another, from its first
+-- state on.
+pub record HeadlineWithState {S : Type 0} (start : S) (after' : S → List ℕ → S) (b : Books) (state : Option S) : Type 0 where
+  pub headline : Headline b
+  pub state_is : IfSome state (λ s. s ≡ made_of start after' b.applied)

@@ -6,10 +6,10 @@ use Rattle.scp_quorum.specs.QuorumTree.{QuorumTree}
 use Rattle.scp_wire.specs.declared.link.Inbound.{Inbound}
 use Rattle.scp_wire.specs.declared.link.LinkItem.{LinkItem}
 use Rattle.scp_driver.specs.Driver.{Says}
-use Rattle.scp_apply.specs.Applied.{made_of}
 use Rattle.scp_ends.specs.Links.{LinkEnd}
 use Rattle.scp_workers.specs.Carrying.{IsCarried}
 use Rattle.scp_gather.specs.declared.gathering.NodeReport.{NodeReport}
+use Rattle.scp_gather.specs.Headline.{IsReportHeadlined}
 use Rattle.scp_gather.specs.Left.{Left}
 use Rattle.scp_gather.specs.Report.{IsReportOf, AreFatesOf, AreCame, AreKept, keeps_by}
 use Rattle.scp_types.specs.declared.capacities.Capacities.{Capacities}
@@ -35,13 +35,13 @@ module _ {A : Type 0} where
     pub decided : e.apply.input.room ≡ caps.decided
 
 module _ {A S : Type 0} (says : Says A) (first : S) (after' : S → List ℕ → S) where
-  -- This is the report of a node with these peers, gathered from what its threads left. The state is what the applied values make of the
-  -- application's first state. There is a link for each peer, and each channel has its capacity.
+  -- This is the report of a node with these peers, gathered from what its threads left. The headline holds of it, and its state is what the
+  -- applied values make of the application's first state. There is a link for each peer, and each channel has its capacity.
   -- The node's own commands were these, and the report shows what became of them. The links that the host drives carried exactly these items.
   -- The report has what came over a link exactly where the link's reader was to keep it.
   pub record IsEnded (me : NodeId) (set : QuorumTree) (peers : List NodeId) (caps : Capacities) (commands : List Inbound) (driven : ℕ → Bool) (sent : ℕ → List LinkItem) (stood : List Stood) (left : Left A) (r : NodeReport A S) : Type 0 where
     pub report : IsReportOf says me set peers left r.journal.items r.parked.items r.applied.items
-    pub state_is : r.state ≡ made_of first after' r.applied.items
+    pub headline : IsReportHeadlined first after' me set peers left r
     pub sized : AreSized caps left
     pub commands_are : left.local.sent ≡ commands
     pub fates_are : AreFatesOf says me set peers left r.commands.items

@@ -3,5 +3,5 @@ use Rattle.scp_core.proofs.laws.each_node_holds_its_headline.Goals as goal
 
 pub returns : goal.returns
 returns g c = record {
-  headline = ledger_gives_headline g.D.Driver.says c.what_keeps_the_ledger_keeps_the_headline.ensures.headline;
+  headline = ledger_gives_headline g.A.Driver.says g.A.Application.first g.A.Application.after c.what_keeps_the_ledger_keeps_the_headline.ensures.headline;
 }

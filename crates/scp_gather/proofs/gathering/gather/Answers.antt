@@ -34,15 +34,18 @@ returns-clause-theorem g c = λ me set peers n.
       applied_is = told.applied.0 ∙ ap (λ (v : ApplierView). v.applied) parts.2;
     }
 
-pub returns-clause-headline : goal.returns-clause-headline
-returns-clause-headline g c = λ me set peers n.
-    let r = c.in_ok-report.report in
-    c.what_is_reported_keeps_the_headline.ensures.headline me set peers c.args.ends r.journal.items r.parked.items r.applied.items (returns-clause-theorem g c me set peers n)
-
 pub returns-clause-state : goal.returns-clause-state
 returns-clause-state g c =
     let told = c.in_ok-report.ensures in
     told.applied.1 ∙ ap (λ (ds : List Decision). made_of g.A.Application.first g.A.Application.after ds) (sym told.applied.0)
+
+pub returns-clause-headline : goal.returns-clause-headline
+returns-clause-headline g c = λ me set peers n.
+    let r = c.in_ok-report.report in
+    record {
+      headline = c.what_is_reported_keeps_the_headline.ensures.headline me set peers c.args.ends r.journal.items r.parked.items r.applied.items (returns-clause-theorem g c me set peers n);
+      state_is = returns-clause-state g c;
+    }
 
 pub returns-clause-commands : goal.returns-clause-commands
 returns-clause-commands g c = λ me set peers n.

@@ -29,7 +29,7 @@ returns-clause-ended g c = λ me set peers caps apart runs driven sent all.
       e,
       record {
         report = c.in_ok-report.ensures.theorem me set peers node;
-        state_is = c.in_ok-report.ensures.state;
+        headline = c.in_ok-report.ensures.headline me set peers node;
         sized = sized me set peers caps c.args.node e takers runs left;
         commands_are = ap (λ (s : Sender Inbound). s.sent) left.local;
         fates_are = c.in_ok-report.ensures.commands me set peers node;
