@@ -16,8 +16,8 @@
 //!   (`run_traced`);
 //! - its trace and its status show each node by the name that the configuration gives it, whatever the ids are;
 //! - the ledger theorem holds of the node for all that it received and replied;
-//! - an account is determined by a node that played what the log says, and by all that happened in its steps; the headline holds of all
-//!   that this node received and replied (`account_node`).
+//! - an account is determined by a node that played what the log says, and by all that happened in its steps; the ledger theorem holds of
+//!   that node too (`account_node`).
 //!
 //! We don't claim that memory did run out where that is reported, that a file is a disk as `EventLog` says, that anything comes in or goes out in time, or that peers agree.
 #![tactic(auto)]

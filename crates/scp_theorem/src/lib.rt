@@ -18,8 +18,8 @@
 //! - What waits in a slot waits behind an envelope of that slot whose quorum set the node lacks. So a set that never comes delays no other slot.
 //! - The slots from the first on are applied once each, in order, each with its slot's one decision, which rests on a quorum or on a taken record.
 //!
-//! The state is promised where it is read (`Node::state`, `gather`): it is what the application makes of the applied values, one after
-//! another. Of operation lists it is what their operations make of the empty map (`the_fold_is_what_lists_make`).
+//! `HeadlineWithState` says it with the state that is read (`Node::state`, `gather`): it is what the application makes of the applied values,
+//! one after another. Of operation lists it is what their operations make of the empty map (`the_fold_is_what_lists_make`).
 //!
 //! What a node sends, and what each message rests on (its grounds, `specs/Grounds.antt`), is promised of all that a node's three stages hand
 //! out for its links, whatever its peers sent and however its stages took turns:
