@@ -10,7 +10,7 @@ use Rattle.scp_theorem.specs.Headline.{Headline}
 use Rattle.scp_core.specs.declared.config.Config.{Config}
 use Rattle.scp_core.specs.declared.event.Reply.{Reply}
 use Rattle.scp_core.specs.declared.event.Reply.TheVariants.{Failed}
-use Rattle.scp_core.specs.Headline.{books_at, Leads, HoldsHeadline, LedgerGivesHeadline}
+use Rattle.scp_core.specs.Headline.{books_at, StepsTo, HoldsHeadline, LedgerGivesHeadline}
 use Rattle.scp_core.specs.History.{Exchange, Past, hears, nothing_heard}
 use Rattle.scp_core.specs.Ledger.{FailedAfter, HoldsLedger}
 use Rattle.scp_core.specs.Node.{NodeView, Step}
@@ -19,7 +19,7 @@ use Rattle.scp_core.proofs.Failing.{failing}
 
 module _ {D : Type 0} (says : Says D) where
   -- what the theorem says of each exchange makes it a step
-  leads : (c : Config) (p : Past) (v last : NodeView D) (xs : List Exchange) → (p.failed ≡ true → v.failed ≡ true) → AreSteps says c p v xs last → Leads (Step says) v xs last
+  leads : (c : Config) (p : Past) (v last : NodeView D) (xs : List Exchange) → (p.failed ≡ true → v.failed ≡ true) → AreSteps says c p v xs last → StepsTo (Step says) v xs last
   leads c p v last [] fails a = a
   leads c p v last (x ∷ xs) fails a = elim a.1 [
     | inl w ↦
@@ -30,7 +30,7 @@ module _ {D : Type 0} (says : Says D) where
   ]
 
   -- a failed node answers Failed, and stays as it is
-  stays : (v : NodeView D) (xs : List Exchange) → v.failed ≡ true → AllByRecursion (λ (x : Exchange). x.1 ≡ Failed) xs → Leads (Step says) v xs v
+  stays : (v : NodeView D) (xs : List Exchange) → v.failed ≡ true → AllByRecursion (λ (x : Exchange). x.1 ≡ Failed) xs → StepsTo (Step says) v xs v
   stays v [] failed silent = refl
   stays v (x ∷ xs) failed silent = (v, subst (λ (r : Reply). Step says v x.0 r v) (sym silent.0) (failed, refl), stays v xs failed silent.1)
 

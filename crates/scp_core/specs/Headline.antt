@@ -33,10 +33,10 @@ module _ {D : Type 0} where
     pub applied : v.applier.applied ≡ moment.applier.applied
 
 module _ {D : Type 0} (IsStep : NodeView D → Event → Reply → NodeView D → Type 0) where
-  -- the exchanges lead from one node to the other: each is a step from what the one before it left
-  abbrev pub Leads : NodeView D → List Exchange → NodeView D → Type 0
-  Leads old [] new = new ≡ old
-  Leads old (x ∷ xs) new = (next : NodeView D) × IsStep old x.0 x.1 next × Leads next xs new
+  -- the exchanges are steps from the one node to the other, each from what the one before it left
+  abbrev pub StepsTo : NodeView D → List Exchange → NodeView D → Type 0
+  StepsTo old [] new = new ≡ old
+  StepsTo old (x ∷ xs) new = (next : NodeView D) × IsStep old x.0 x.1 next × StepsTo next xs new
 
 module _ {D S : Type 0} (IsStep : NodeView D → Event → Reply → NodeView D → Type 0) (start : S) (after' : S → List ℕ → S) where
   -- The headline holds of a node's books at a moment. The earlier exchanges led to that moment, step by step, from the node as it is made; the
@@ -47,8 +47,8 @@ module _ {D S : Type 0} (IsStep : NodeView D → Event → Reply → NodeView D 
     pub past_is : past ≡ earlier ++ later
     pub driver : D
     pub moment : NodeView D
-    pub before : Leads IsStep (made driver v.config) earlier moment
-    pub since : Leads IsStep moment later v
+    pub before : StepsTo IsStep (made driver v.config) earlier moment
+    pub since : StepsTo IsStep moment later v
     pub runs : moment.failed ≡ false
     pub is : (later ≡ []) ⊎ ShowsStill later moment v
     -- it has the node's configuration, and its first slot is slot 1

@@ -20,7 +20,7 @@ module _ {D : Type 0} where
   books_reported me set peers e journal applied = record (books_of (account_gathered me set peers e)) { first = 1; journal = journal; applied = applied }
 
 module _ {D S : Type 0} (start : S) (after' : S → List ℕ → S) where
-  -- the headline holds of what went over a node's links and of what its report shows, and so of the state that it shows
+  -- the headline holds of what went over a node's links, and of what its report shows, with the state
   abbrev pub IsReportHeadlined : NodeId → QuorumTree → List NodeId → Left D → NodeReport D S → Type 0
   IsReportHeadlined me set peers e r = HeadlineWithState start after' (books_reported me set peers e r.journal.items r.applied.items) (Some r.state)
 

@@ -30,8 +30,8 @@ pub record AreHeadlined (script text : List ℕ) : Type 0 where
   pub each : AreNodesHeadlined (commands_in script) nodes
   pub reports : text ≡ settled_text (reports_of nodes) (commands_in script)
 
--- The headline holds for the node of this number, with books that show what its report shows, and so does what it says of the state. Each link
--- that the script drives carried what the lines put on it; each other link carried what a courier sent.
+-- The headline holds for the node of this number, with the books and the state that its report shows. Each link that the script drives carried
+-- what the lines put on it; each other link carried what a courier sent.
 pub record IsHeadlined (commands : List Command) (number : ℕ) (r : NodeReport) : Type 0 where
   pub left : Left
   pub stood : List Stood
