@@ -4,7 +4,7 @@ use crate::fault::Fault;
 use crate::shared::SharedValue;
 
 /// A ballot of the SCP draft, ordered by its counter and then by its value's bytes.
-#[derive(Debug, Drop, PartialEq, Eq, PartialOrd, Ord)]
+#[derive(Drop, PartialEq, Eq, PartialOrd, Ord)]
 pub struct Ballot {
     /// Counts the attempts; 0 stands for no ballot.
     pub counter: u32,

@@ -5,7 +5,7 @@ ghost use Rattle.scp_types.specs.Range.{IsInRange, AreInRange};
 use crate::limits::CAPACITY_LIMIT;
 
 /// The most items that each queue of a node holds: each link's queue, the inbox, the ready and the decided queue. Each number is 1 to 1,024.
-#[derive(Clone, Copy, Debug, PartialEq, Eq)]
+#[derive(Clone, Copy, PartialEq, Eq)]
 pub struct Capacities {
     /// What travels over one link.
     pub link: u16,

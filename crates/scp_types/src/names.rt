@@ -42,11 +42,11 @@ impl PartialEq for Hash {
 pub struct Slot(pub u64);
 
 /// The number of a carried message on its connection: 0, 1, 2, ..
-#[derive(Clone, Copy, Debug, PartialEq, Eq, PartialOrd, Ord)]
+#[derive(Clone, Copy, PartialEq, Eq, PartialOrd, Ord)]
 pub struct Seq(pub u64);
 
 /// One life of the link from one node to another: a connection. Ordered by sender, receiver and life.
-#[derive(Clone, Copy, Debug, PartialEq, Eq, PartialOrd, Ord)]
+#[derive(Clone, Copy, PartialEq, Eq, PartialOrd, Ord)]
 pub struct ConnId {
     /// The node that sends on it.
     pub from: NodeId,

@@ -12,7 +12,7 @@ use std::ops::Deref;
 use std::sync::Arc;
 
 /// A value that several ballots hold, kept once. Contracts see the value.
-#[derive(Debug, Drop)]
+#[derive(Drop)]
 pub struct SharedValue(Arc<Value>);
 
 impl Model for SharedValue {

@@ -10,7 +10,7 @@ use std::marker::Model;
 /// What is agreed on: any number of bytes. Values are ordered by their bytes, so a proper prefix is
 /// less than the whole. The limit `VALUE_LIMIT` is that of the encoding (this project's profile).
 /// It is tested where a value is read or written.
-#[derive(Debug, Drop)]
+#[derive(Drop)]
 pub struct Value(Vec<u8>);
 
 impl Model for Value {
