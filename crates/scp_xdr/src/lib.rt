@@ -22,7 +22,7 @@ mod writer;
 mod xdr;
 
 pub use reader::Reader;
-pub use room::{spend_fixed, spend_opaque, spend_u32, spend_u64};
+pub use room::{spend_opaque, spend_u32, spend_u64};
 pub use writer::Writer;
 pub use xdr::{
     Xdr, a_spelling_has_its_length, array_fits, check, decode, encode, encode_within, is_spelling,
