@@ -23,7 +23,7 @@ use std::marker::Model;
 const MAX_LEVELS: u32 = 5;
 
 /// A threshold over nodes and further quorum sets, which together are its entries.
-#[derive(Debug, Drop)]
+#[derive(Drop)]
 pub struct QuorumSet {
     threshold: u32,
     validators: Vec<NodeId>,
@@ -196,7 +196,7 @@ fn are_within(most: u32, sets: &[QuorumSet]) -> bool
 }
 
 /// The SHA-256 of the bytes (FIPS 180-4).
-pub(crate) fn sha256_of(bytes: &[u8]) -> Hash
+fn sha256_of(bytes: &[u8]) -> Hash
     ensures { result.0 ≡ sha256 bytes.now }
 {
     let mut hasher = Sha256::new();

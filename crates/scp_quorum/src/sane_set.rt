@@ -11,7 +11,7 @@ use std::alloc::Global;
 use std::marker::Model;
 
 /// A sane quorum set, which keeps its hash.
-#[derive(Debug, Drop)]
+#[derive(Drop)]
 pub struct SaneSet {
     set: QuorumSet,
     hash: Hash,

@@ -14,7 +14,7 @@ use std::alloc::{AllocError, Global};
 use std::sync::Arc;
 
 /// A node, and the place of the group of nodes with which it shares one quorum set.
-#[derive(Clone, Copy, Debug, Drop)]
+#[derive(Clone, Copy, Drop)]
 pub struct Seat {
     pub node: NodeId,
     pub group: usize,
