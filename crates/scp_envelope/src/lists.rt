@@ -4,7 +4,7 @@ use scp_types::{Fault, Value};
 use std::marker::Model;
 
 /// Values in order. The limit of 64 is that of the encoding (this project's profile).
-#[derive(Debug, Drop)]
+#[derive(Drop)]
 pub struct ValueList(Vec<Value>);
 
 impl Model for ValueList {

@@ -9,7 +9,7 @@ use std::ops::Deref;
 use std::sync::Arc;
 
 /// An envelope that several lists hold, kept once. Contracts see the envelope.
-#[derive(Debug, Drop)]
+#[derive(Drop)]
 pub struct SharedEnvelope(Arc<Envelope>);
 
 impl Model for SharedEnvelope {
@@ -67,7 +67,7 @@ impl Deref for SharedEnvelope {
 }
 
 /// The statement of an envelope that several lists hold. Contracts see the statement.
-#[derive(Debug, Drop)]
+#[derive(Drop)]
 pub struct SharedStatement(SharedEnvelope);
 
 impl Model for SharedStatement {

@@ -4,7 +4,7 @@ use scp_types::Fault;
 use std::marker::Model;
 
 /// A signature: bytes that are kept and not checked. The limit of 64 is that of the encoding.
-#[derive(Debug, Drop)]
+#[derive(Drop)]
 pub struct Signature(Vec<u8>);
 
 impl Model for Signature {

@@ -7,7 +7,7 @@ use crate::signature::Signature;
 use scp_types::{Ballot, Hash, NodeId, Slot};
 
 /// What a node says while it prepares ballots.
-#[derive(Debug, Drop)]
+#[derive(Drop)]
 pub struct Prepare {
     /// The hash of the node's quorum set.
     pub set_hash: Hash,
@@ -24,7 +24,7 @@ pub struct Prepare {
 }
 
 /// What a node says once it accepted a commit.
-#[derive(Debug, Drop)]
+#[derive(Drop)]
 pub struct Confirm {
     /// Its current ballot, whose value is the one that it accepted.
     pub ballot: Ballot,
@@ -39,7 +39,7 @@ pub struct Confirm {
 }
 
 /// What a node says once it confirmed a commit.
-#[derive(Debug, Drop)]
+#[derive(Drop)]
 pub struct Externalize {
     /// The lowest ballot that it confirmed as committed.
     pub commit: Ballot,
@@ -50,7 +50,7 @@ pub struct Externalize {
 }
 
 /// What a node says while it nominates values.
-#[derive(Debug, Drop)]
+#[derive(Drop)]
 pub struct Nominate {
     /// The hash of the node's quorum set.
     pub set_hash: Hash,
@@ -61,7 +61,7 @@ pub struct Nominate {
 }
 
 /// What a statement says, by its kind. The first three are ballot statements.
-#[derive(Debug, Drop)]
+#[derive(Drop)]
 pub enum Pledges {
     /// Discriminant 0.
     Prepare(Prepare),
@@ -74,7 +74,7 @@ pub enum Pledges {
 }
 
 /// What a node says about a slot.
-#[derive(Debug, Drop)]
+#[derive(Drop)]
 pub struct Statement {
     /// The node that says it.
     pub node: NodeId,
@@ -85,7 +85,7 @@ pub struct Statement {
 }
 
 /// A statement as it is sent, with a signature that is kept and not checked.
-#[derive(Debug, Drop)]
+#[derive(Drop)]
 pub struct Envelope {
     /// What is said.
     pub statement: Statement,
