@@ -25,7 +25,7 @@ const ENTRY_LIMIT: u32 = 256;
 
 /// One change of the state. In an operation list a key has at most 64 bytes, and a value at most 256. Its XDR is a
 /// union: 0, the key and the value; or 1 and the key.
-#[derive(Debug, Drop)]
+#[derive(Drop)]
 pub enum Op {
     /// Sets a key to a value.
     Put(Value, Value),
@@ -34,7 +34,7 @@ pub enum Op {
 }
 
 /// The operations of a value. Their XDR is an array: their count, and each of them.
-#[derive(Debug, Drop)]
+#[derive(Drop)]
 struct OpList(Vec<Op>);
 
 /// At most `max` bytes, after their length. A refusal leaves the reader anywhere.
