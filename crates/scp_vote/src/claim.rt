@@ -8,7 +8,7 @@ use scp_envelope::{Pledges, Statement};
 use scp_types::{Ballot, SharedValue, Value};
 
 /// What nodes vote for and accept (the SCP draft).
-#[derive(Debug, Drop)]
+#[derive(Drop)]
 pub enum Claim {
     /// The ballot is prepared.
     Prepared(Ballot),
@@ -19,7 +19,7 @@ pub enum Claim {
 }
 
 /// The two kinds of statements: those of nomination, and ballot statements.
-#[derive(Clone, Copy, Debug, PartialEq, Eq)]
+#[derive(Clone, Copy, PartialEq, Eq)]
 pub enum StatementKind {
     Nomination,
     Balloting,
@@ -50,7 +50,7 @@ pub fn kind_of_pledges(pledges: &Pledges) -> StatementKind
 }
 
 /// How a statement supports a claim: it votes for it or accepts it, or it accepts it.
-#[derive(Clone, Copy, Debug, PartialEq, Eq)]
+#[derive(Clone, Copy, PartialEq, Eq)]
 pub enum Support {
     VotesOrAccepts,
     Accepts,
