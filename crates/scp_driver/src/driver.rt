@@ -6,7 +6,7 @@ use scp_types::{Fault, Slot, Value};
 use std::alloc::Global;
 
 /// How far a value is validated.
-#[derive(Clone, Copy, Debug, PartialEq, Eq)]
+#[derive(Clone, Copy, PartialEq, Eq)]
 pub enum Level {
     Invalid,
     MaybeValid,

@@ -15,7 +15,7 @@ use std::alloc::Global;
 /// The product's application (this project's profile). Operation lists are fully validated, and everything else is invalid;
 /// nothing is taken from an invalid value. The composite is the greatest candidate by bytes, and nodes lead in turn. The state
 /// is a map from keys to values, to which each list's operations are applied.
-#[derive(Clone, Copy, Debug)]
+#[derive(Clone, Copy)]
 pub struct KvDriver;
 
 /// The greatest of the values by bytes; there is at least one. Takes no memory.

@@ -8,4 +8,4 @@ mod kv_driver;
 
 pub use application::Application;
 pub use driver::{Driver, Level};
-pub use kv_driver::{KvDriver, greatest_of, place_of};
+pub use kv_driver::{KvDriver, place_of};
