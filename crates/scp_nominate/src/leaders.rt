@@ -68,7 +68,7 @@ fn vote_of<D: Driver>(
 }
 
 /// Votes for each value as `vote_of` does, in order.
-pub(crate) fn vote_all<D: Driver>(
+fn vote_all<D: Driver>(
     driver: &D,
     alloc: Global,
     slot: Slot,
@@ -116,7 +116,7 @@ pub(crate) fn named(alloc: Global, pledges: &Pledges) -> Result<ValueSet, Fault>
 }
 
 /// Votes for what the leader's statement on the board names.
-pub(crate) fn vote_leader<D: Driver>(
+fn vote_leader<D: Driver>(
     driver: &D,
     alloc: Global,
     slot: Slot,

@@ -19,7 +19,7 @@ use scp_vote::{Board, Claim};
 const LIMIT: usize = 7;
 
 /// What a node votes for and accepts, and which values it found confirmed.
-#[derive(Debug, Drop)]
+#[derive(Drop)]
 pub(crate) struct Lists {
     pub(crate) votes: ValueSet,
     pub(crate) accepted: ValueSet,

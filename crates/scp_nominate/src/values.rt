@@ -9,7 +9,7 @@ use scp_types::{Fault, Value};
 use std::alloc::Global;
 
 /// Values that ascend by bytes, each once.
-#[derive(Debug, Drop)]
+#[derive(Drop)]
 pub(crate) struct ValueSet {
     values: Vec<Value>,
     pub ghost ascending: { IsStrictlySortedBy value_cmp values.items } by { Prim.hlevel props },
