@@ -15,7 +15,7 @@ use scp_types::{Ballot, Fault, SharedValue};
 use scp_vote::Board;
 
 /// Which ballots count.
-#[derive(Debug, Drop)]
+#[derive(Drop)]
 pub(crate) enum Bound {
     Any,
     /// Those less than the ballot and incompatible with it.

@@ -13,7 +13,7 @@ use scp_types::{Ballot, Fault};
 use scp_vote::Board;
 
 /// A range of commit: its ends have the same value.
-#[derive(Debug, Drop)]
+#[derive(Drop)]
 pub(crate) struct Range {
     pub(crate) low: Ballot,
     pub(crate) high: Ballot,

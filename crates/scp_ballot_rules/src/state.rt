@@ -5,7 +5,7 @@ use crate::own::{copy_some, share_value};
 use scp_types::{Ballot, Fault, SharedValue};
 
 /// How far the ballots of a slot have come.
-#[derive(Clone, Copy, Debug, PartialEq, Eq)]
+#[derive(Clone, Copy, PartialEq, Eq)]
 pub enum Phase {
     Prepare,
     Confirm,
@@ -13,7 +13,7 @@ pub enum Phase {
 }
 
 /// What a node keeps of its ballots besides the board (the SCP draft).
-#[derive(Debug, Drop)]
+#[derive(Drop)]
 pub struct State {
     pub phase: Phase,
     /// The current ballot.
