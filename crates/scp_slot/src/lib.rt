@@ -13,6 +13,5 @@ mod timers;
 pub use machine::SlotMachine;
 pub use newest::Heard;
 pub use output::{Emitted, SlotInput, SlotOutput, Verdict};
-pub use quorum::has_quorum_at;
 pub use scp_ballot::Certified;
 pub use timers::{Timer, add_timers};

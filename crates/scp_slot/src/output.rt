@@ -22,7 +22,7 @@ pub enum SlotInput {
 }
 
 /// What was found about an input.
-#[derive(Clone, Copy, Debug, PartialEq, Eq)]
+#[derive(Clone, Copy, PartialEq, Eq)]
 pub enum Verdict {
     /// It was taken in.
     Fresh,

@@ -14,7 +14,7 @@ use scp_vote::{Board, StatementKind};
 use std::alloc::Global;
 
 /// A timer that should run: that of a slot's nomination in this round, or of its ballot of this counter.
-#[derive(Clone, Copy, Debug, PartialEq, Eq)]
+#[derive(Clone, Copy, PartialEq, Eq)]
 pub enum Timer {
     Round(Slot, u64),
     Ballot(Slot, u32),
