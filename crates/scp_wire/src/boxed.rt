@@ -9,7 +9,7 @@ use std::ops::Deref;
 
 /// An envelope in a box of its own, since it is much larger than what the other messages hold; all that hold it share it.
 /// Contracts see the envelope, and not where it is, so two boxes of equal envelopes are equal.
-#[derive(Debug, Drop)]
+#[derive(Drop)]
 pub struct BoxedEnvelope(SharedEnvelope);
 
 impl Model for BoxedEnvelope {

@@ -5,7 +5,7 @@ use crate::fitting::FittingMessage;
 use scp_types::{ConnId, Seq};
 
 /// A message that is numbered on its connection: an envelope, a request for a record, or a record.
-#[derive(Debug, Drop)]
+#[derive(Drop)]
 pub struct Carried {
     /// The life of the link that it came over.
     pub conn: ConnId,

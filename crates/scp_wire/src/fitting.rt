@@ -17,7 +17,7 @@ use std::marker::Model;
 const PART_LIMIT: usize = 65_532;
 
 /// A message that breaks no limit of a link message: `encode` never refuses it as too long. Contracts see the message.
-#[derive(Debug, Drop)]
+#[derive(Drop)]
 pub struct FittingMessage {
     message: Message,
 }

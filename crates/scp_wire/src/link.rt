@@ -45,7 +45,7 @@ impl Bytes {
 }
 
 /// What travels over a link, in order. Each life of the link is a connection of its own.
-#[derive(Debug, Drop)]
+#[derive(Drop)]
 pub enum LinkItem {
     /// The connection begins.
     Opened(ConnId),
@@ -69,7 +69,7 @@ pub enum Cause {
 }
 
 /// What a node's host tells it to do; it doesn't come over a link.
-#[derive(Debug, Drop)]
+#[derive(Drop)]
 pub enum Command {
     /// Time went on: each wanted quorum set was missed once more.
     Tick,
@@ -102,7 +102,7 @@ impl Command {
 }
 
 /// What reaches a node's inbox: what a reader makes of a link's items, and local commands.
-#[derive(Debug, Drop)]
+#[derive(Drop)]
 pub enum Inbound {
     /// The connection begins.
     Opened(ConnId),

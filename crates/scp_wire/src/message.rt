@@ -11,7 +11,7 @@ use scp_types::{Fault, Hash, Slot, Value};
 pub const MESSAGE_LIMIT: usize = 65_536;
 
 /// What goes over a link (this project's profile): an XDR union (RFC 4506, section 4.15) of the kinds below.
-#[derive(Debug, Drop)]
+#[derive(Drop)]
 pub enum Message {
     /// Kind 1: a statement of a node.
     Envelope(BoxedEnvelope),

@@ -20,7 +20,7 @@ use std::collections::VecDeque;
 use std::marker::Model;
 
 /// Where a reader is on its link.
-#[derive(Debug, Drop)]
+#[derive(Drop)]
 struct Place {
     ended: bool,
     next: u64,
@@ -42,7 +42,7 @@ impl Model for Place {
 
 /// Reads the items of one link in turn. Contracts see whether its connection is over, the next number, and what was read of a
 /// batch and has still to be given.
-#[derive(Debug, Drop)]
+#[derive(Drop)]
 pub struct LinkReader {
     at: Place,
     rest: VecDeque<Inbound>,

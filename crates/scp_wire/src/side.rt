@@ -4,7 +4,7 @@ use scp_quorum::QuorumSet;
 use scp_types::Hash;
 
 /// A message that asks for a quorum set, or answers that. These are the kinds of link messages that have no number.
-#[derive(Debug, Drop)]
+#[derive(Drop)]
 pub enum SideMessage {
     /// Asks for the quorum set with this hash.
     GetSet(Hash),
