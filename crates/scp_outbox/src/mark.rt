@@ -14,7 +14,7 @@ pub enum Mark {
 }
 
 /// What an outbox gives next.
-#[derive(Debug, Drop)]
+#[derive(Drop)]
 pub enum Out {
     /// A change of the link.
     Mark(Mark),
