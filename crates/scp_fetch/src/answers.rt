@@ -1,7 +1,7 @@
 //! What becomes of a wanted hash.
 
 /// What a miss does. A miss is that a node said it has no set with the hash, or that time went on.
-#[derive(Clone, Copy, Debug, PartialEq, Eq)]
+#[derive(Clone, Copy, PartialEq, Eq)]
 pub enum Missed {
     /// The hash isn't wanted.
     Unwanted,
@@ -12,7 +12,7 @@ pub enum Missed {
 }
 
 /// What happens when a set comes.
-#[derive(Clone, Copy, Debug, PartialEq, Eq)]
+#[derive(Clone, Copy, PartialEq, Eq)]
 pub enum Answer {
     /// Its hash isn't wanted.
     Unwanted,

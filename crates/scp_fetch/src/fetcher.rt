@@ -18,7 +18,7 @@ pub const MISS_LIMIT: u8 = 12;
 /// The hashes that are wanted, in the order in which they became so, each with its misses, the links that were asked, and the
 /// connections that wait for it. A look-up is one in a hash table. A miss of all, an opened link and the end of a connection
 /// walk all wants; the end of a want moves those after it.
-#[derive(Debug, Drop)]
+#[derive(Drop)]
 pub struct Fetcher {
     wants: IndexMap<[u8; 32], Want>,
 }

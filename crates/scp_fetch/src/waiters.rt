@@ -9,7 +9,7 @@ use std::alloc::Global;
 use std::marker::Model;
 
 /// Connections, each once, in the order in which they came. Contracts see the list.
-#[derive(Debug, Drop)]
+#[derive(Drop)]
 pub struct Waiters(Vec<ConnId>);
 
 impl Model for Waiters {

@@ -13,7 +13,7 @@ use std::alloc::{AllocError, Global};
 
 /// A wanted hash: its misses since it became so; for each link, whether it was asked since both the hash became wanted and
 /// the link last opened; and the connections that wait for it.
-#[derive(Debug, Drop)]
+#[derive(Drop)]
 pub struct Want {
     /// The hash of a quorum set.
     pub hash: Hash,
@@ -26,7 +26,7 @@ pub struct Want {
 }
 
 /// A miss of one hash, or one miss of each that is wanted.
-#[derive(Clone, Copy, Debug)]
+#[derive(Clone, Copy)]
 pub enum Miss {
     One(Hash),
     All,
