@@ -1,7 +1,7 @@
 //! What becomes of an item that the pending stage takes.
 
 /// Why a message doesn't pass through.
-#[derive(Clone, Copy, Debug, PartialEq, Eq)]
+#[derive(Clone, Copy, PartialEq, Eq)]
 pub enum Why {
     /// The quorum set that it names isn't there, and its sender is asked for the set now.
     Asks,
@@ -14,7 +14,7 @@ pub enum Why {
 }
 
 /// What would become of an item if it were taken next.
-#[derive(Clone, Copy, Debug, PartialEq, Eq)]
+#[derive(Clone, Copy, PartialEq, Eq)]
 pub enum Becoming {
     /// Nothing changes, or this isn't shown: a beginning that opens no connection, an end, and a command other than a Tick.
     Nothing,

@@ -16,7 +16,7 @@ use std::sync::Arc;
 
 /// A parked message. It leaves once it waits for nothing and nothing of its lane stays before it; or with all that is parked of
 /// its connection, when that ends.
-#[derive(Debug, Drop)]
+#[derive(Drop)]
 pub(crate) enum Parked {
     /// An envelope whose quorum set is unknown.
     Waits(Carried),

@@ -23,7 +23,7 @@ use std::marker::Model;
 use std::mem;
 
 /// The messages of an open connection that are parked, in order.
-#[derive(Debug, Drop)]
+#[derive(Drop)]
 pub(crate) struct Queue {
     conn: ConnId,
     parked: VecDeque<Parked>,

@@ -13,7 +13,7 @@ use std::marker::Model;
 use std::sync::Arc;
 
 /// Why a message was dropped.
-#[derive(Clone, Copy, Debug, PartialEq, Eq)]
+#[derive(Clone, Copy, PartialEq, Eq)]
 pub enum DropCause {
     /// The quorum set that it names came, and isn't sane.
     BadSet,
@@ -27,7 +27,7 @@ pub enum DropCause {
 
 /// A carried message on its way to the slot stage, which breaks no limit. With an envelope there is a sane quorum set whose hash the envelope
 /// names; with any other message there is none.
-#[derive(Debug, Drop)]
+#[derive(Drop)]
 pub struct Delivery {
     conn: ConnId,
     seq: Seq,
@@ -152,7 +152,7 @@ impl Delivery {
 }
 
 /// What is ready for the slot stage.
-#[derive(Debug, Drop)]
+#[derive(Drop)]
 pub enum Ready {
     /// A message is taken.
     Deliver(Delivery),
