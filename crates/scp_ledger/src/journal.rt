@@ -13,7 +13,7 @@ use std::sync::Arc;
 pub const JOURNAL_LIMIT: usize = 1_000_000;
 
 /// What the slot stage found of a message or a command that it took.
-#[derive(Clone, Copy, Debug, PartialEq, Eq)]
+#[derive(Clone, Copy, PartialEq, Eq)]
 pub enum Verdict {
     /// The slot of an envelope or a command is below the lowest undecided one.
     OldSlot,
@@ -43,7 +43,7 @@ pub enum Verdict {
 }
 
 /// An entry of the journal: what became of a carried message, or the end of a connection.
-#[derive(Debug, Drop)]
+#[derive(Drop)]
 pub enum Fate {
     /// The message of this number on its connection was taken.
     Taken {
@@ -68,7 +68,7 @@ pub enum Fate {
 }
 
 /// What a decision rests on.
-#[derive(Debug, Drop)]
+#[derive(Drop)]
 pub enum Origin {
     /// This node's machine of the slot: the counter of the commit, a quorum that accepts it, and the own EXTERNALIZE.
     Machine {
@@ -84,7 +84,7 @@ pub enum Origin {
 }
 
 /// The value of a slot, and what the decision rests on.
-#[derive(Debug, Drop)]
+#[derive(Drop)]
 pub struct Decision {
     pub slot: Slot,
     pub value: Value,
@@ -92,7 +92,7 @@ pub struct Decision {
 }
 
 /// A link that was asked for the record of a slot. Higher slots come first, so what is looked for is near the front.
-#[derive(Clone, Copy, Debug, PartialEq, Eq)]
+#[derive(Clone, Copy, PartialEq, Eq)]
 pub struct Asking {
     pub slot: Slot,
     pub link: u8,

@@ -9,7 +9,7 @@ use std::collections::BTreeSet;
 use std::marker::Model;
 
 /// Nodes that are a quorum, ascending. Contracts see the list.
-#[derive(Debug, Drop)]
+#[derive(Drop)]
 pub struct Quorum(BTreeSet<NodeId>);
 
 impl Model for Quorum {

@@ -12,7 +12,7 @@ use std::sync::Arc;
 pub const DECIDED_LIMIT: usize = VALUE_LIMIT;
 
 /// A decision that several lists hold, kept once. Its value has at most 4,096 bytes, so a record of it fits a link. Contracts see the decision.
-#[derive(Debug, Drop)]
+#[derive(Drop)]
 pub struct SharedDecision(Arc<Decision>);
 
 impl Model for SharedDecision {

@@ -8,7 +8,7 @@ use scp_wire::Message;
 use std::marker::Model;
 
 /// What goes on to the applier.
-#[derive(Debug, Drop)]
+#[derive(Drop)]
 pub enum Onward {
     /// A slot was decided.
     Decided(SharedDecision),
@@ -17,7 +17,7 @@ pub enum Onward {
 }
 
 /// What goes out to peers.
-#[derive(Debug, Drop)]
+#[derive(Drop)]
 pub enum Outgoing {
     /// An own statement, for each peer.
     ToAll(SharedEnvelope),
@@ -26,7 +26,7 @@ pub enum Outgoing {
 }
 
 /// What goes out, in order. Each message fits a link. Contracts see the list.
-#[derive(Debug, Drop)]
+#[derive(Drop)]
 pub struct OutgoingList(Vec<Outgoing>);
 
 impl Model for OutgoingList {
@@ -78,7 +78,7 @@ impl OutgoingList {
 }
 
 /// What became of a command.
-#[derive(Clone, Copy, Debug, PartialEq, Eq)]
+#[derive(Clone, Copy, PartialEq, Eq)]
 pub enum CommandFate {
     /// Its slot is below the lowest undecided one.
     OldSlot,
@@ -109,7 +109,7 @@ pub enum CommandFate {
 }
 
 /// What came of a thing that was taken.
-#[derive(Debug, Drop)]
+#[derive(Drop)]
 pub struct Took {
     /// The verdict on a message or a command. A Tick has none, and nothing else has one.
     pub verdict: Option<Verdict>,
