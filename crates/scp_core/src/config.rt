@@ -8,7 +8,7 @@ use scp_types::{Capacities, NodeId};
 use std::marker::Model;
 
 /// The nodes at the other ends of a node's links, in the order of the links.
-#[derive(Debug, Drop)]
+#[derive(Drop)]
 pub struct Peers(Vec<NodeId>);
 
 impl Model for Peers {
@@ -37,7 +37,7 @@ impl Peers {
 }
 
 /// Who a node is, what it is linked to, and what its queues hold.
-#[derive(Debug, Drop)]
+#[derive(Drop)]
 pub struct Config {
     /// The node itself.
     pub me: NodeId,

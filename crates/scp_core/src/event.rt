@@ -5,7 +5,7 @@ use scp_types::Fault;
 use scp_wire::{Bytes, Command};
 
 /// What happens at a node: one step of one link's tail, or of one stage. Links are numbered in the order of the peers they come from.
-#[derive(Debug, Drop)]
+#[derive(Drop)]
 pub enum Event {
     /// The peer opens the link: its next life, a new connection, begins.
     Open(u8),
@@ -58,7 +58,7 @@ impl Event {
 
 /// What a node answers to an event. If several fit, it is the first in this order: `Failed`, `NoLink`, the event's own in the order of the
 /// stages' documentation, and `NoMemory` last. It can't be copied or compared, since `Sent` has the bytes: match on it.
-#[derive(Debug, Drop)]
+#[derive(Drop)]
 pub enum Reply {
     /// The event was taken at the tail of a link, or into the inbox.
     Accepted,

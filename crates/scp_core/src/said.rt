@@ -4,7 +4,7 @@ use scp_envelope::SharedEnvelope;
 use std::marker::Model;
 
 /// Own statements for all peers, in order. Contracts see the list.
-#[derive(Debug, Drop)]
+#[derive(Drop)]
 pub struct SaidList(Vec<SharedEnvelope>);
 
 impl Model for SaidList {

@@ -5,7 +5,7 @@ ghost use Rattle.scp_core.specs.inside.Stops.{reply_of};
 use crate::event::Reply;
 
 /// Why a stage gives nothing: the replies that carry nothing, so a result of giving stays a few bytes.
-#[derive(Clone, Copy, Debug)]
+#[derive(Clone, Copy)]
 pub enum Stop {
     NoLink,
     Idle,
