@@ -46,8 +46,8 @@ pub use laws::{each_command_is_taken_in_its_turn, what_is_still_is_at_rest};
 pub use network::Network;
 pub use playing::{Played, play, play_with};
 pub use scp_core::{
-    Capacities, Command, CommandFate, Config, Decision, Event, Fate, KvDriver, Node, Origin, Peers,
-    Reply, SharedDecision, Verdict, each_node_holds_its_headline, each_node_holds_its_ledger,
+    Command, CommandFate, Config, Decision, Event, Fate, KvDriver, Node, Origin, Peers, Reply,
+    SharedDecision, Verdict, each_node_holds_its_headline, each_node_holds_its_ledger,
 };
 pub use scp_wire::link_of;
 pub use sending::Sending;

@@ -16,7 +16,7 @@ use scp_types::Fault;
 use std::alloc::Global;
 
 /// What came of an event: the reply to it, and what went out.
-#[derive(Debug, Drop)]
+#[derive(Drop)]
 pub struct Played {
     pub reply: Reply,
     pub sent: Vec<Sending>,

@@ -27,7 +27,7 @@ pub trait Watch<A: Application + Drop + Copy> {
 }
 
 /// A watch that notes nothing.
-#[derive(Debug, Drop)]
+#[derive(Drop)]
 pub struct NoWatch;
 
 impl<A: Application + Drop + Copy> Watch<A> for NoWatch {
