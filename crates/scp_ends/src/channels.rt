@@ -23,26 +23,17 @@ pub type InboxTx = Tx<Inbound, Any>;
 /// The receiving end of an inbox.
 pub type InboxRx = Rx<Inbound, Any>;
 
-/// What a producer of an inbox leaves when it has ended.
-pub type InboxDone = Done<Inbound, Any>;
-
 /// The sending end from the pending stage to the slot stage.
 pub type ReadyTx = Tx<Ready, Any>;
 
 /// The receiving end from the pending stage to the slot stage.
 pub type ReadyRx = Rx<Ready, Any>;
 
-/// What the pending stage's sending end leaves when it has ended.
-pub type ReadyDone = Done<Ready, Any>;
-
 /// The sending end from the slot stage to the applier.
 pub type DecidedTx = Tx<Onward, InWindow>;
 
 /// The receiving end from the slot stage to the applier.
 pub type DecidedRx = Rx<Onward, InWindow>;
-
-/// What the slot stage's sending end leaves when it has ended.
-pub type DecidedDone = Done<Onward, InWindow>;
 
 /// The ends of the link from one node to another. Its capacity is 1 to 1,024 items; any other is refused by `Fault::BadConfig`.
 pub fn link(

@@ -54,7 +54,7 @@ impl<T: Drop, L: Law<T>> Model for Unheard<T, L> {
 
 impl<T: Drop, L: Law<T>> Unheard<T, L> {
     /// The end.
-    pub fn into_end(self) -> Tx<T, L>
+    pub(crate) fn into_end(self) -> Tx<T, L>
         ensures { result ≡ self }
     {
         let Unheard { end } = self;

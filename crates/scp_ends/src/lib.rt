@@ -24,8 +24,7 @@ mod waiting;
 mod window;
 
 pub use channels::{
-    DecidedDone, DecidedRx, DecidedTx, InboxDone, InboxRx, InboxTx, LinkRx, ReadyDone, ReadyRx,
-    ReadyTx, decided, inbox, link, ready,
+    DecidedRx, DecidedTx, InboxRx, InboxTx, LinkRx, ReadyRx, ReadyTx, decided, inbox, link, ready,
 };
 pub use commands::{LocalDone, LocalTx};
 pub use ends::{Done, Gone, Nobody, Rx, Tx, Unheard};

@@ -14,7 +14,7 @@ use std::marker::Model;
 use std::sync::Wait;
 
 /// Why nothing was sent over a link.
-#[derive(Debug, Drop)]
+#[derive(Drop)]
 pub enum NotSent {
     /// `Fault::NotOpen`, `Fault::AlreadyOpen` or `Fault::LivesSpent`.
     Refused(Fault),
