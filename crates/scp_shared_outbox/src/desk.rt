@@ -133,7 +133,7 @@ pub(crate) fn mark<J: Said, R: Wait>(
 }
 
 /// A turn of the end that is given what waits. Returns `Out::Nothing` if nothing waits.
-pub(crate) fn give<R: Wait>(rt: &R, place: &Place, pass: &mut Pass) -> Out
+fn give<R: Wait>(rt: &R, place: &Place, pass: &mut Pass) -> Out
     requires place { IsPassOf place.now pass.old }
     requires mine { (view pass.old).takes ≡ true }
     ensures place { IsPassOf place.now pass.new }
