@@ -96,13 +96,6 @@ impl<T: Drop, L: Law<T>, U: Drop, M: Law<U>, S: Stage<T, L, U, M>> Ended<T, L, U
         self.gone.is_some()
     }
 
-    /// Whether its end wasn't sent because nobody receives from it any more.
-    pub fn is_unheard(&self) -> bool
-        ensures { result ≡ self.now.unheard }
-    {
-        self.unheard.is_some()
-    }
-
     /// Its receiving end, what is left of its sending end, its ends of the outboxes, and the stage.
     pub fn into_parts(self) -> (Rx<T, L>, Option<Done<U, M>>, Vec<Putter>, S)
         ensures parts { (result.0 ≡ self.input) × (result.1 ≡ self.output) × (result.2.items ≡ self.outlets) × (result.3 ≡ self.stage) }
