@@ -37,7 +37,7 @@ impl<A: Application + Drop + Copy> Model for Ends<A> {
 
 impl<A: Application + Drop + Copy> Ends<A> {
     /// The first stage, in the order of the pipeline, whose worker failed.
-    pub fn first_failed(&self) -> Option<Stage>
+    pub(crate) fn first_failed(&self) -> Option<Stage>
         ensures exact { result ≡ first_failed_of self.now }
     {
         first_failed(
