@@ -35,7 +35,7 @@ use std::sync::Wait;
 use std::thread::Threads;
 
 /// How a link is left: how often it was opened, and whether it is open.
-#[derive(Clone, Copy, Debug, PartialEq, Eq)]
+#[derive(Clone, Copy, PartialEq, Eq)]
 pub struct Stood {
     pub lives: usize,
     pub is_open: bool,
