@@ -46,7 +46,7 @@ pub trait ReportOut {
 }
 
 /// A script in memory.
-#[derive(Debug, Drop)]
+#[derive(Drop)]
 pub struct MemoryIn<'a> {
     left: &'a [u8],
 }
@@ -75,7 +75,7 @@ impl ScriptIn for MemoryIn<'_> {
 }
 
 /// A text in memory. Want of memory is its failure.
-#[derive(Debug, Drop)]
+#[derive(Drop)]
 pub struct MemoryOut {
     text: Vec<u8>,
     failures: u64,
