@@ -6,7 +6,7 @@ use scp_wire::Bytes;
 
 /// What a line of a script says. Nodes are named by their numbers, 1 to 8. A link is named by the node that it goes from and the node
 /// that it goes to, which is another one.
-#[derive(Debug, Drop)]
+#[derive(Drop)]
 pub enum Command {
     /// The queues of each node have these capacities.
     Caps(Capacities),

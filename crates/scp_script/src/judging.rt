@@ -12,7 +12,7 @@ use crate::words::{ascii, few_words, skipped};
 use std::alloc::Global;
 
 /// What is found out about a line that follows others.
-#[derive(Clone, Copy, Debug)]
+#[derive(Clone, Copy)]
 pub enum Place {
     /// It may stand there.
     Stands,

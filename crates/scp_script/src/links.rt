@@ -8,7 +8,7 @@ ghost use Rattle.scp_script.specs.Reading.{at, place, no_link, KnowsLinks};
 use scp_types::NODE_LIMIT;
 
 /// What is known of a link.
-#[derive(Clone, Copy, Debug)]
+#[derive(Clone, Copy)]
 pub struct Link {
     pub is_open: bool,
     pub lives: u32,
@@ -18,7 +18,7 @@ pub struct Link {
 pub const PLACES: usize = NODE_LIMIT * NODE_LIMIT;
 
 /// What is known of each link: first of the links from node 1, then of those from node 2, and so on.
-#[derive(Clone, Copy, Debug)]
+#[derive(Clone, Copy)]
 pub struct Links([Link; PLACES]);
 
 /// The index of the link in the table.

@@ -9,7 +9,7 @@ use scp_types::{Fault, NODE_LIMIT};
 use std::alloc::{AllocError, Global};
 
 /// The first word of a line.
-#[derive(Clone, Copy, Debug, PartialEq, Eq)]
+#[derive(Clone, Copy, PartialEq, Eq)]
 pub enum Verb {
     Caps,
     Nodes,
@@ -28,7 +28,7 @@ pub enum Verb {
 }
 
 /// What a word after the first must say.
-#[derive(Clone, Copy, Debug, PartialEq, Eq)]
+#[derive(Clone, Copy, PartialEq, Eq)]
 pub enum Kind {
     Capacity,
     Count,
