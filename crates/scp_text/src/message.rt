@@ -481,7 +481,7 @@ fn read_by(alloc: Global, verb: &[u8], words: &[&[u8]]) -> Result<Message, WordF
 
 /// The message that the words say, within its limits or not.
 #[tactic(auto, unfolding(crate::specs::Messages::message_in))]
-pub fn read_message(alloc: Global, words: &[&[u8]]) -> Result<Message, WordFault>
+fn read_message(alloc: Global, words: &[&[u8]]) -> Result<Message, WordFault>
     ensures { Answers result (message_in (map (λ word. word.now) words.now)) }
 {
     read_by(alloc, verb_of(words), words)

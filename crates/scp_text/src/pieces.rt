@@ -10,7 +10,7 @@ use std::alloc::{AllocError, Global};
 use std::str;
 
 /// Whether the byte is printable ASCII, and neither a space, a comma nor a round bracket.
-pub fn is_plain(byte: u8) -> bool
+fn is_plain(byte: u8) -> bool
     ensures { result ≡ is_plain byte }
 {
     byte > 32 && byte < 127 && byte != b'(' && byte != b')' && byte != b','
@@ -24,7 +24,7 @@ fn are_plain(bytes: &[u8]) -> bool
 }
 
 /// Whether there is a byte, and each is plain.
-pub fn is_word(bytes: &[u8]) -> bool
+fn is_word(bytes: &[u8]) -> bool
     ensures { result ≡ is_word bytes.now }
 {
     match bytes {

@@ -24,7 +24,7 @@ const MAX_ENTRIES: usize = 1_000;
 const MAX_LEVELS: u32 = 4;
 
 /// Adds a number.
-pub fn write_number(out: &mut String, number: u64) -> Result<(), AllocError>
+fn write_number(out: &mut String, number: u64) -> Result<(), AllocError>
     ensures { OnOk result (string_bytes out.new ≡ string_bytes out.old ++ decimal number) }
 {
     write!(out, "{number}")

@@ -22,7 +22,7 @@ const LIST_LIMIT: usize = VALUE_LIMIT;
 const COUNT_LIMIT: u32 = 64;
 
 /// The operations of a value. Their XDR is that of an array: their count, and each of them.
-#[derive(Debug, Drop)]
+#[derive(Drop)]
 struct OpList(Vec<Op>);
 
 impl Xdr for OpList {
