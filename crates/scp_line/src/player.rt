@@ -12,7 +12,7 @@ use scp_script::Command;
 use scp_turn::Network;
 
 /// The number of the line at which a script stopped, and the reason.
-#[derive(Clone, Copy, Debug, PartialEq, Eq)]
+#[derive(Clone, Copy, PartialEq, Eq)]
 pub struct Stopped {
     pub line: usize,
     pub fault: PlayFault,

@@ -31,7 +31,7 @@ pub trait LineWatch: Watch<KvDriver> {
 }
 
 /// A watch that notes nothing, neither lines nor steps.
-#[derive(Debug, Drop)]
+#[derive(Drop)]
 pub struct Nobody;
 
 impl Watch<KvDriver> for Nobody {
