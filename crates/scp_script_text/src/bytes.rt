@@ -9,7 +9,7 @@ use scp_types::Fault;
 use std::alloc::{AllocError, Global};
 
 /// How bytes are encoded in a word.
-#[derive(Clone, Copy, Debug, PartialEq, Eq)]
+#[derive(Clone, Copy, PartialEq, Eq)]
 pub enum Spelling {
     /// In hex digits, an even number of them. Both cases are read; lower-case digits are written.
     Hex,

@@ -4,7 +4,7 @@ ghost use Rattle.scp_script_text.specs.Scripts.{carries as does_carry};
 ghost use Rattle.scp_script_text.specs.Lines.{carried_by, carried_in as carried_of, words_before as count_before};
 
 /// What a line of a script carries after its first words.
-#[derive(Clone, Copy, Debug, PartialEq, Eq)]
+#[derive(Clone, Copy, PartialEq, Eq)]
 pub enum Carried {
     /// A message, after `send I J`.
     Message,

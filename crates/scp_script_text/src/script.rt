@@ -14,7 +14,7 @@ use scp_wire::Bytes;
 use std::alloc::{AllocError, Global};
 
 /// What a script is about, which decides what its lines carry.
-#[derive(Clone, Copy, Debug, PartialEq, Eq)]
+#[derive(Clone, Copy, PartialEq, Eq)]
 pub enum Kind {
     /// Nodes. Lines carry messages after `send I J`, values after `propose I SLOT`, quorum sets after `set I`.
     Nodes,
@@ -24,7 +24,7 @@ pub enum Kind {
 }
 
 /// The form in which lines have what they carry.
-#[derive(Clone, Copy, Debug, PartialEq, Eq)]
+#[derive(Clone, Copy, PartialEq, Eq)]
 pub enum Form {
     /// In hex digits.
     Hex,

@@ -5,7 +5,7 @@ ghost use Rattle.scp_script_text.specs.Scripts.{lines_of, counts as does_count, 
 ghost use Rattle.scp_script_text.specs.SlotLines.{kind_of as kind_of_words, kind_by};
 
 /// What a line of a slot's script carries.
-#[derive(Clone, Copy, Debug, PartialEq, Eq)]
+#[derive(Clone, Copy, PartialEq, Eq)]
 pub enum SlotLine {
     /// `slot ME SLOT SET`: a quorum set.
     Machine,
