@@ -15,7 +15,7 @@ use std::alloc::{AllocError, Global};
 pub const LINE_LIMIT: u64 = SCRIPT_LIMIT as u64;
 
 /// A script in which each shorthand is replaced by the lines that it stands for.
-#[derive(Debug, Drop)]
+#[derive(Drop)]
 pub struct Expanded {
     /// Its lines.
     pub lines: PlacedLines,

@@ -8,14 +8,14 @@ use std::alloc::{AllocError, Global};
 use std::marker::Model;
 
 /// A line of an expanded script, and the number, from 1 on, of the line that stands for it.
-#[derive(Debug, Drop)]
+#[derive(Drop)]
 pub struct PlacedLine {
     pub place: usize,
     pub line: Bytes,
 }
 
 /// The lines of an expanded script.
-#[derive(Debug, Drop)]
+#[derive(Drop)]
 pub struct PlacedLines(Vec<PlacedLine>);
 
 impl Model for PlacedLines {

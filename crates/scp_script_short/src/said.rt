@@ -13,7 +13,7 @@ use scp_wire::Bytes;
 use std::alloc::{AllocError, Global};
 
 /// What one line of a script says.
-#[derive(Debug, Drop)]
+#[derive(Drop)]
 pub enum Said {
     /// The line itself.
     Line(Bytes),

@@ -2,7 +2,7 @@
 use scp_types::Slot;
 
 /// A line of text that says several lines of a script.
-#[derive(Clone, Copy, Debug, PartialEq, Eq)]
+#[derive(Clone, Copy, PartialEq, Eq)]
 pub enum Shorthand {
     /// `open all`: each of this many nodes opens its link to each other one.
     OpenAll { nodes: u32 },
