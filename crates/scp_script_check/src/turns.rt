@@ -14,7 +14,7 @@ use std::alloc::Global;
 use std::marker::Model;
 
 /// The nodes that lead in turn as one node sees them, ascending.
-#[derive(Debug, Drop)]
+#[derive(Drop)]
 pub struct Turn(Vec<NodeId>);
 
 impl Model for Turn {

@@ -3,7 +3,7 @@
 use scp_types::NodeId;
 
 /// What in a script hardly does what it was written for.
-#[derive(Clone, Copy, Debug, PartialEq, Eq)]
+#[derive(Clone, Copy, PartialEq, Eq)]
 pub enum Warning {
     /// The bytes of this line's `send` encode no message, from this place on: they end their connection.
     Malformed {
