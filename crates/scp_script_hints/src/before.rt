@@ -12,7 +12,7 @@ use std::alloc::{AllocError, Global};
 use std::collections::BTreeSet;
 
 /// A link that lines sent on.
-#[derive(Clone, Copy, Debug, PartialEq, Eq)]
+#[derive(Clone, Copy, PartialEq, Eq)]
 pub struct SentLink {
     pub from: u8,
     pub to: u8,
@@ -38,7 +38,7 @@ pub fn nothing(alloc: Global) -> Before
 }
 
 /// Whether the link is among these.
-pub fn has_link(links: &[SentLink], from: u8, to: u8) -> bool
+fn has_link(links: &[SentLink], from: u8, to: u8) -> bool
     ensures { result ≡ has_sent links.now from to }
 {
     for link in links {

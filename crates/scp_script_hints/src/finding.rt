@@ -60,7 +60,7 @@ fn satisfy_members(members: &[Member], nodes: &BTreeSet<NodeId>) -> bool
 }
 
 /// Whether nodes are a quorum of the members: at least one of them, which satisfy the quorum set of each of them.
-pub fn is_quorum(members: &[Member], nodes: &BTreeSet<NodeId>) -> bool
+fn is_quorum(members: &[Member], nodes: &BTreeSet<NodeId>) -> bool
     ensures { IsTrue result ↔ IsQuorumOf members.now (is_in nodes.now) }
 {
     if nodes.first().is_none() {

@@ -28,10 +28,8 @@ mod nodes;
 mod text;
 mod told;
 
-pub use finding::{disjoint_quorums, is_quorum, quorums};
 pub use hint::Hint;
 pub use lines::hints;
-pub use losses::{smallest_halting, survived};
 pub use member::Member;
 pub use text::text_of_hints;
-pub use told::{members_of, quorums_text, write_disjoint};
+pub use told::quorums_text;

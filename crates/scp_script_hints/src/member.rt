@@ -4,7 +4,7 @@ use scp_quorum::QuorumSet;
 use scp_types::NodeId;
 
 /// A node and its quorum set.
-#[derive(Debug, Drop)]
+#[derive(Drop)]
 pub struct Member {
     pub node: NodeId,
     pub set: QuorumSet,
