@@ -12,7 +12,7 @@ use scp_types::NODE_LIMIT;
 use std::alloc::{AllocError, Global};
 
 /// What became of a command that the slot stage of the node of this number took.
-#[derive(Clone, Copy, Debug, PartialEq, Eq)]
+#[derive(Clone, Copy, PartialEq, Eq)]
 pub struct Told {
     pub node: u8,
     pub fate: CommandFate,

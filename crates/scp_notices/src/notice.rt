@@ -5,7 +5,7 @@ use scp_types::Value;
 use std::marker::Model;
 
 /// Numbers of nodes, from 1 on. Contracts see the list.
-#[derive(Debug, Drop)]
+#[derive(Drop)]
 pub struct Numbers(Vec<u8>);
 
 impl Model for Numbers {
@@ -35,7 +35,7 @@ impl Numbers {
 }
 
 /// Nodes that applied the same value for a slot.
-#[derive(Debug, Drop)]
+#[derive(Drop)]
 pub struct Side {
     /// Their numbers, ascending.
     pub nodes: Numbers,
@@ -44,7 +44,7 @@ pub struct Side {
 }
 
 /// Nodes, grouped by the value that they applied for a slot. Contracts see the list.
-#[derive(Debug, Drop)]
+#[derive(Drop)]
 pub struct Sides(Vec<Side>);
 
 impl Model for Sides {
@@ -76,7 +76,7 @@ impl Sides {
 
 /// What would otherwise pass in silence in a run of a script. Lines are those of the script's text, from 1 on. Nodes and peers are named by
 /// their numbers, from 1 on.
-#[derive(Debug, Drop)]
+#[derive(Drop)]
 pub enum Notice {
     /// The nodes didn't come to rest in this line: its settle was cut off after this number of rounds, each of which moved something.
     Unsettled { line: usize, rounds: u32 },
