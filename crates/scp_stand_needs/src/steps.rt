@@ -17,7 +17,7 @@ use std::alloc::{AllocError, Global};
 use std::collections::BTreeSet;
 
 /// The next step of a claim.
-#[derive(Clone, Copy, Debug, PartialEq, Eq)]
+#[derive(Clone, Copy, PartialEq, Eq)]
 pub enum Step {
     AcceptNominated,
     ConfirmNominated,
@@ -29,7 +29,7 @@ pub enum Step {
 
 impl Step {
     /// Whether the step counts only nodes that accept the claim. Otherwise it counts those that vote for it, too.
-    pub fn confirms(self) -> bool
+    fn confirms(self) -> bool
         ensures { result ≡ is_confirming self }
     {
         match self {
@@ -207,7 +207,7 @@ fn counted<'a>(step: Step, votes: &'a Vec<NodeId>, accepts: &'a Vec<NodeId>) -> 
 }
 
 /// What a step of a claim needs that the board doesn't have, for a node whose members are itself and the nodes of its set.
-pub fn need_of(
+fn need_of(
     alloc: Global,
     members: &[NodeId],
     board: &Board,
