@@ -21,4 +21,4 @@ pub use machine::{Place, is_blank, write_machine};
 pub use names::{Names, NodeName};
 pub use sets::write_set;
 pub use statements::write_statement;
-pub use texts::{write_nodes, write_slot_words, write_value, write_values};
+pub use texts::{write_nodes, write_slot_words, write_values};
