@@ -8,7 +8,7 @@ use scp_wire::{Bytes, Command, Message, SideMessage};
 use std::marker::Model;
 
 /// One thing that a step of a node tells. Links are numbered as the peers they come from. The facts of one step stand in the order of these.
-#[derive(Debug, Drop)]
+#[derive(Drop)]
 pub enum Fact {
     /// What a line's event goes to was full: the queue of a link, or the inbox.
     Full,
@@ -65,21 +65,21 @@ pub enum Fact {
 }
 
 /// A fact of the node of this number.
-#[derive(Debug, Drop)]
+#[derive(Drop)]
 pub struct Told {
     pub node: u8,
     pub fact: Fact,
 }
 
 /// What is told of a script, in its order: the number of the line that is done next, or what its nodes did.
-#[derive(Debug, Drop)]
+#[derive(Drop)]
 pub enum Telling {
     Line(usize),
     Of(Told),
 }
 
 /// Facts in their order. Contracts see the list.
-#[derive(Debug, Drop)]
+#[derive(Drop)]
 pub struct FactList(Vec<Fact>);
 
 impl Model for FactList {

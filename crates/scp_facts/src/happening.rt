@@ -4,7 +4,7 @@ use scp_turn::CommandFate;
 use scp_wire::{Bytes, Command};
 
 /// What came to a node, went from it, or was taken by its slot stage, in one step. A link has the number of the peer it comes from.
-#[derive(Debug, Drop)]
+#[derive(Drop)]
 pub enum Happening {
     /// The peer opened this link.
     Opened(u8),
@@ -23,7 +23,7 @@ pub enum Happening {
 }
 
 /// What happened at the node of this number.
-#[derive(Debug, Drop)]
+#[derive(Drop)]
 pub struct Kept {
     pub node: u8,
     pub happening: Happening,

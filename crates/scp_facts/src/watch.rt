@@ -13,7 +13,7 @@ use std::alloc::Global;
 use std::marker::Model;
 
 /// What is known of a step before it is done.
-#[derive(Debug, Drop)]
+#[derive(Drop)]
 pub enum Awaited {
     /// It tells nothing.
     Nothing,
