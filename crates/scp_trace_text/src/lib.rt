@@ -1,7 +1,7 @@
 //! The facts of nodes' steps as lines that people read, and a watch that writes them step by step.
 //!
 //! What it promises:
-//! - each fact has its lines, which the fact, the node as it is now, and the names determine (`write_fact`, `write_told`);
+//! - each fact has its lines, which the fact, the node as it is now, and the names determine (`write_told`);
 //! - a message that was parked or taken is written as a whole; a statement that was sent is written by its kind and slot, any other message
 //!   that was sent as a whole;
 //! - the lines of all facts of a script's line are in the order of its steps (`write_facts`); what only came in isn't shown, and what was
@@ -26,7 +26,7 @@ mod watch;
 mod words;
 
 pub use commands::write_one;
-pub use facts::{Place, write_fact};
+pub use facts::Place;
 pub use laws::what_is_traced_is_what_happened;
 pub use messages::write_message;
 pub use told::{Scene, write_facts, write_told};
