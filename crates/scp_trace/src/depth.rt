@@ -1,7 +1,7 @@
 //! How much a trace shows.
 
 /// How much a trace shows of a script's run.
-#[derive(Clone, Copy, Debug, PartialEq, Eq)]
+#[derive(Clone, Copy, PartialEq, Eq)]
 pub enum Depth {
     /// Only where nodes stand: at the reports and at the end.
     Stands,

@@ -28,7 +28,7 @@ use scp_types::Fault;
 use std::alloc::Global;
 
 /// What was shown, and the fault that ended the run, if one did.
-#[derive(Debug, Drop)]
+#[derive(Drop)]
 pub struct Traced {
     pub text: String,
     pub fault: Option<PlayFault>,
