@@ -16,7 +16,7 @@ mod marks;
 mod pieces;
 mod topic;
 
-pub use facts::{came_by, is_of, post_of, same_slot, topic_of_fact};
+pub use facts::{came_by, same_slot};
 pub use looks::{decided_count, is_against, is_sent, sign_of, word_of_kind, write_class};
 pub use marks::{Act, Drawing, Mark, Pen, drawing_of};
 pub use pieces::{

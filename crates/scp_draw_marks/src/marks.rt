@@ -13,7 +13,7 @@ use std::alloc::Global;
 use std::marker::Model;
 
 /// What a node does in a fact, as far as others of its facts depend on it.
-#[derive(Clone, Copy, Debug, PartialEq, Eq)]
+#[derive(Clone, Copy, PartialEq, Eq)]
 pub enum Act {
     Says,
     Sends,
@@ -22,7 +22,7 @@ pub enum Act {
 }
 
 /// Where the next fact of a section goes.
-#[derive(Clone, Copy, Debug)]
+#[derive(Clone, Copy)]
 pub struct Pen {
     pub slot: Option<u64>,
     /// The script's line of the last fact.
@@ -38,7 +38,7 @@ pub struct Pen {
 }
 
 /// A fact in the picture.
-#[derive(Clone, Copy, Debug)]
+#[derive(Clone, Copy)]
 pub struct Mark {
     /// Its index among all reports.
     pub at: usize,
@@ -80,7 +80,7 @@ fn up(n: u64) -> u64
 }
 
 /// The newest letter of a connection. With a number, the newest that has this number.
-pub fn newest(letters: &[Letter], conn: &ConnId, seq: Option<u64>) -> Option<Letter>
+fn newest(letters: &[Letter], conn: &ConnId, seq: Option<u64>) -> Option<Letter>
     ensures { result ≡ newest_in conn.now seq letters.now }
 {
     let mut left = letters.len();

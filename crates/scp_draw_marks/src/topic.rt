@@ -3,7 +3,7 @@
 use scp_types::ConnId;
 
 /// The kinds of facts, each of which a reader may hide.
-#[derive(Clone, Copy, Debug, PartialEq, Eq)]
+#[derive(Clone, Copy, PartialEq, Eq)]
 pub enum Kind {
     Nominate,
     Prepare,
@@ -22,14 +22,14 @@ pub enum Kind {
 }
 
 /// A kind, and a slot if there is one.
-#[derive(Clone, Copy, Debug)]
+#[derive(Clone, Copy)]
 pub struct Topic {
     pub kind: Kind,
     pub slot: Option<u64>,
 }
 
 /// A numbered message that came: its connection and number, what it is about, and the row of the picture in which it came.
-#[derive(Clone, Copy, Debug)]
+#[derive(Clone, Copy)]
 pub struct Letter {
     pub conn: ConnId,
     pub seq: u64,
