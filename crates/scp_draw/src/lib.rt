@@ -18,6 +18,5 @@ mod playing;
 mod section;
 
 pub use drawing::{DrawFault, draw};
-pub use page::{Run, write_page};
 pub use playing::{ToldRun, play_told};
 pub use scp_trace::{Depth, Traced, trace};
