@@ -25,7 +25,7 @@ use serde_json::{Value, json};
 use std::alloc::{AllocError, Global};
 
 /// How nodes ran.
-#[derive(Clone, Copy, Debug, PartialEq, Eq)]
+#[derive(Clone, Copy, PartialEq, Eq)]
 pub enum Mode {
     /// One step after another, in a script or live.
     Serial,

@@ -12,7 +12,7 @@ use std::alloc::{AllocError, Global};
 use std::collections::BTreeMap;
 
 /// The statement of an entry, if it is a ballot statement that was taken as fresh.
-pub fn fresh_ballot(fate: &Fate) -> Option<&Statement>
+fn fresh_ballot(fate: &Fate) -> Option<&Statement>
     ensures { option_map (λ s. s.now) result ≡ ballot_in (fresh_heard fate.now) }
 {
     let Fate::Taken {
