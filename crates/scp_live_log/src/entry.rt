@@ -9,7 +9,7 @@ use std::alloc::{AllocError, Global};
 use std::marker::Model;
 
 /// A line that was acted on, without its line end, and the SHA-256 of what was sent for it.
-#[derive(Debug, Drop)]
+#[derive(Drop)]
 pub struct Entry {
     line: Vec<u8>,
     sent: Hash,

@@ -47,7 +47,7 @@ impl From<AllocError> for LogFault {
 }
 
 /// The text to write for events that are already on the disk. Only `Kept::keep` makes one.
-#[derive(Debug, Drop)]
+#[derive(Drop)]
 pub struct Durable {
     text: String,
 }
