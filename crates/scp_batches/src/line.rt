@@ -11,7 +11,7 @@ use std::marker::Model;
 pub const LINE_LIMIT: usize = 262_144;
 
 /// A line of the input, without its line end. If the line is longer than the limit, this is its first bytes: one more than the limit.
-#[derive(Debug, Drop)]
+#[derive(Drop)]
 pub struct Line {
     front: Vec<u8>,
 }

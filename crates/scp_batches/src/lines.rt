@@ -55,7 +55,7 @@ fn feed(alloc: Global, held: &mut Vec<u8>, bytes: &[u8]) -> Result<Vec<Line>, Al
 }
 
 /// What was read of an input so far: the bytes of the line that hasn't ended are held.
-#[derive(Debug, Drop)]
+#[derive(Drop)]
 pub struct Lines {
     alloc: Global,
     held: Vec<u8>,
