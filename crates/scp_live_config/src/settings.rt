@@ -7,7 +7,7 @@ use std::alloc::{AllocError, Global};
 use std::marker::Model;
 
 /// A name of a node, and its id.
-#[derive(Debug, Drop)]
+#[derive(Drop)]
 pub struct Named {
     name: String,
     id: NodeId,
@@ -54,7 +54,7 @@ impl Named {
 }
 
 /// The settings that a configuration gives.
-#[derive(Debug, Drop)]
+#[derive(Drop)]
 pub struct Settings {
     /// The names of all nodes in `NODES`, in the order of its keys.
     pub names: Vec<Named>,

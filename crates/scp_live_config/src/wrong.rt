@@ -1,7 +1,7 @@
 //! What is wrong with a document.
 
 /// The part of a document in which a key is.
-#[derive(Clone, Copy, Debug, PartialEq, Eq)]
+#[derive(Clone, Copy, PartialEq, Eq)]
 pub enum Section {
     /// In the document itself.
     Whole,
