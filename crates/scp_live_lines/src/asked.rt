@@ -4,7 +4,7 @@ use scp_core::Event;
 use scp_types::Slot;
 
 /// What a line of a host asks for.
-#[derive(Debug, Drop)]
+#[derive(Drop)]
 pub enum Asked {
     /// This event happens at the node.
     Event(Event),

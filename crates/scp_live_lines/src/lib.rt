@@ -37,9 +37,8 @@ pub use laws::{
     a_peer_is_told_by_its_name, lines_are_read_in_order, only_send_lines_are_read,
     sent_lines_come_back,
 };
-pub use names::name_of;
 pub use reading::read_line;
-pub use replies::{word_of_reply, write_ok, write_refused};
+pub use replies::{write_ok, write_refused};
 pub use scp_script::{BadWord, WordFault};
 pub use sent::{write_again, write_send};
 pub use state::{
