@@ -5,7 +5,7 @@ use scp_types::Fault;
 use std::alloc::Global;
 
 /// A log that keeps nothing, for a node without a log file. All that the node received is lost when its process ends.
-#[derive(Debug, Drop)]
+#[derive(Drop)]
 pub struct NoLog;
 
 impl EventLog for NoLog {

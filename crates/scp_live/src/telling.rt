@@ -77,7 +77,7 @@ pub fn tell_fates(
 }
 
 /// Reports these decisions.
-pub fn tell_decided(
+fn tell_decided(
     text: &mut String,
     names: &[String],
     peers: &[NodeId],
@@ -102,7 +102,7 @@ pub fn tell_applied(text: &mut String, applied: &[SharedDecision]) -> Result<(),
 }
 
 /// How many fates, decisions and applied slots there are.
-#[derive(Clone, Copy, Debug)]
+#[derive(Clone, Copy)]
 pub struct Marks {
     pub fates: usize,
     pub decisions: usize,
