@@ -3,7 +3,7 @@
 use scp_core::{Event, Node, Reply, Timer};
 
 /// A timer that runs, and the time at which it fires.
-#[derive(Clone, Copy, Debug, PartialEq, Eq)]
+#[derive(Clone, Copy, PartialEq, Eq)]
 pub struct Armed {
     pub timer: Timer,
     pub time: u64,

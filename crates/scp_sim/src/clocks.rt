@@ -16,7 +16,7 @@ impl<'a> World<'a> {
     }
 
     /// Removes a timer that fires now from those that run, and returns the number of its node.
-    pub fn take_timer(&mut self, who: usize, timer: Timer) -> Option<u8> {
+    fn take_timer(&mut self, who: usize, timer: Timer) -> Option<u8> {
         let now = self.now;
         let actor = self.actors.as_mut_slice().get_mut(who)?;
         let here = actor

@@ -7,7 +7,7 @@ use std::alloc::Global;
 use std::collections::BTreeMap;
 
 /// What is due. An actor is given by its index: first the nodes in their order, and then the twins of those that equivocate.
-#[derive(Debug, Drop)]
+#[derive(Drop)]
 pub enum Due {
     /// A message that was sent in this life of its link arrives at its receiver.
     Arrives {

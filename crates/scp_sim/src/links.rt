@@ -4,7 +4,7 @@ use scp_types::{Fault, NODE_LIMIT};
 use std::alloc::Global;
 
 /// A link from one node to another.
-#[derive(Clone, Copy, Debug, PartialEq, Eq)]
+#[derive(Clone, Copy, PartialEq, Eq)]
 pub struct Link {
     pub is_open: bool,
     /// How many times it was opened.
@@ -16,7 +16,7 @@ pub struct Link {
 }
 
 /// The links between the nodes of a script.
-#[derive(Debug, Drop)]
+#[derive(Drop)]
 pub struct Links(Vec<Link>);
 
 /// A link that was never open.

@@ -18,7 +18,7 @@ impl<'a> World<'a> {
     }
 
     /// Whether two nodes should be linked now.
-    pub fn are_linked(&self, one: u8, other: u8) -> bool {
+    fn are_linked(&self, one: u8, other: u8) -> bool {
         for partition in self.plan.partitions.as_slice() {
             if partition.span.from <= self.now
                 && self.now < partition.span.to
@@ -46,7 +46,7 @@ impl<'a> World<'a> {
     }
 
     /// Opens or closes the link from one node to another, as the plan says for now.
-    pub fn relink(&mut self, from: u8, to: u8) -> Result<(), SimFault> {
+    fn relink(&mut self, from: u8, to: u8) -> Result<(), SimFault> {
         let mut link = self.links.get(from, to);
         let is_linked = self.are_linked(from, to);
         if link.is_open == is_linked {

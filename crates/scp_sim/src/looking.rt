@@ -7,7 +7,7 @@ use scp_types::WINDOW;
 
 impl<'a> World<'a> {
     /// A node asks another one that applied more slots for the records of the next slots.
-    pub fn ask(&mut self, node: u8, of: u8) -> Result<bool, SimFault> {
+    fn ask(&mut self, node: u8, of: u8) -> Result<bool, SimFault> {
         let (here, there) = (self.applied_of(node), self.applied_of(of));
         let is_linked = self.links.get(node, of).is_open && self.links.get(of, node).is_open;
         if !is_linked || there <= here {

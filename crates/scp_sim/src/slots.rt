@@ -11,7 +11,7 @@ use scp_types::{Slot, Value};
 
 impl<'a> World<'a> {
     /// The value that an actor proposes for a slot.
-    pub fn value(&self, who: usize, slot: Slot) -> Result<Option<Value>, SimFault> {
+    fn value(&self, who: usize, slot: Slot) -> Result<Option<Value>, SimFault> {
         let Some(actor) = self.actors.as_slice().get(who) else {
             return Ok(None);
         };
@@ -51,7 +51,7 @@ impl<'a> World<'a> {
     }
 
     /// Whether a node is to propose a value for a slot.
-    pub fn proposes(&mut self, number: u8, slot: u64) -> bool {
+    fn proposes(&mut self, number: u8, slot: u64) -> bool {
         let count = usize::from(self.plan.nodes);
         match self.plan.propose {
             Proposers::All => true,

@@ -7,7 +7,7 @@ use scp_sim_options::is_marked;
 
 impl<'a> World<'a> {
     /// Plays one thing that is due.
-    pub fn happen(&mut self, due: Due) -> Result<(), SimFault> {
+    fn happen(&mut self, due: Due) -> Result<(), SimFault> {
         match due {
             Due::Arrives {
                 from,
@@ -24,7 +24,7 @@ impl<'a> World<'a> {
     }
 
     /// Brings all actors to rest, and sends what they have to say.
-    pub fn rest(&mut self) -> Result<(), SimFault> {
+    fn rest(&mut self) -> Result<(), SimFault> {
         self.act(Command::Settle)?;
         for actor in self.actors.as_mut_slice() {
             if let Some(twin) = &mut actor.twin {
@@ -51,13 +51,13 @@ impl<'a> World<'a> {
     }
 
     /// Whether the run is over: all judged nodes applied all slots, or there is no more progress.
-    pub fn has_ended(&self) -> bool {
+    fn has_ended(&self) -> bool {
         let is_stuck = self.now.saturating_sub(self.moved) > PATIENCE && !self.is_to_change();
         is_stuck || self.is_all_over()
     }
 
     /// Whether all judged nodes applied all slots.
-    pub fn is_all_over(&self) -> bool {
+    fn is_all_over(&self) -> bool {
         for number in 1..=self.plan.nodes {
             if self.is_judged(number) && !self.is_over(number) {
                 return false;

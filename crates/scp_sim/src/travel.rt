@@ -25,7 +25,7 @@ impl<'a> World<'a> {
     }
 
     /// Sends a message that isn't lost. It arrives at some later time.
-    pub fn travel(&mut self, from: u8, to: u8, bytes: Bytes) -> Result<(), SimFault> {
+    fn travel(&mut self, from: u8, to: u8, bytes: Bytes) -> Result<(), SimFault> {
         let mut link = self.links.get(from, to);
         let mut time = self
             .now

@@ -30,7 +30,7 @@ impl<'a> World<'a> {
     }
 
     /// A statement of a node with the hash of a quorum set that no node has.
-    pub fn strange(&mut self, node: u8) -> Result<Option<Bytes>, SimFault> {
+    fn strange(&mut self, node: u8) -> Result<Option<Bytes>, SimFault> {
         let mut hash = [0; 32];
         self.rng.fill_bytes(&mut hash);
         let digits = hex::encode(self.alloc, &hash)?;
@@ -68,7 +68,7 @@ impl<'a> World<'a> {
     }
 
     /// Sends what an actor has to say to a node.
-    pub fn hand_out(&mut self, who: usize, to: u8) -> Result<(), SimFault> {
+    fn hand_out(&mut self, who: usize, to: u8) -> Result<(), SimFault> {
         let number = match self.actors.as_slice().get(who) {
             Some(actor) => actor.number,
             None => return Ok(()),
@@ -95,7 +95,7 @@ impl<'a> World<'a> {
 
     /// Whether an actor speaks to a node, over an open link. A silent node speaks to none. A node that equivocates speaks to the first
     /// half of all nodes, and its twin to the second half.
-    pub fn speaks(&self, who: usize, to: u8) -> bool {
+    fn speaks(&self, who: usize, to: u8) -> bool {
         let Some(actor) = self.actors.as_slice().get(who) else {
             return false;
         };

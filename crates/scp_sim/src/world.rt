@@ -76,7 +76,7 @@ impl From<PlayFault> for SimFault {
 }
 
 /// Counts of messages and timers.
-#[derive(Clone, Copy, Debug, PartialEq, Eq)]
+#[derive(Clone, Copy, PartialEq, Eq)]
 pub struct Counts {
     pub sent: u64,
     pub lost: u64,
