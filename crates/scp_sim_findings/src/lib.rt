@@ -21,9 +21,9 @@ mod shrinking;
 mod standing;
 mod table;
 
-pub use outcome::{Finding, Judging, closed, finding_of, write_outcome};
-pub use replaying::{ReplayFault, replayed};
+pub use outcome::{Finding, Judging};
+pub use replaying::ReplayFault;
 pub use running::{BadSets, Told, ToldFault, bad_set_line, judging_of, sets_of, tell_run};
 pub use shrinking::{shorten, shrunk};
-pub use standing::{add_stand, stand_of};
+pub use standing::add_stand;
 pub use table::{Table, write_row};

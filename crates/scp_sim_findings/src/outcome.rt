@@ -11,14 +11,14 @@ use scp_types::NODE_LIMIT;
 use std::alloc::{AllocError, Global};
 
 /// Which nodes are judged, as a mark for each node from 1 on, and how many slots they were to apply.
-#[derive(Clone, Copy, Debug, PartialEq, Eq)]
+#[derive(Clone, Copy, PartialEq, Eq)]
 pub struct Judging {
     pub marks: [bool; NODE_LIMIT],
     pub slots: u64,
 }
 
 /// What can be found in a run.
-#[derive(Clone, Copy, Debug, PartialEq, Eq)]
+#[derive(Clone, Copy, PartialEq, Eq)]
 pub enum Finding {
     /// Judged nodes applied different values for a slot.
     Split,

@@ -40,7 +40,7 @@ pub enum ToldFault {
 }
 
 /// Why lines give no quorum sets.
-#[derive(Clone, Copy, Debug, PartialEq, Eq)]
+#[derive(Clone, Copy, PartialEq, Eq)]
 pub enum BadSets {
     NoMemory,
     /// This line, counted from 1, is bad.

@@ -32,7 +32,7 @@ pub fn write_row(text: &mut String, plan: &Plan, seed: u64, told: &Told) -> Resu
 }
 
 /// Sums over runs.
-#[derive(Clone, Copy, Debug, PartialEq, Eq)]
+#[derive(Clone, Copy, PartialEq, Eq)]
 pub struct Table {
     pub runs: u64,
     pub whole: u64,
