@@ -20,7 +20,7 @@ pub use asked::{
 };
 pub use bytes::{LONG_LIMIT, read_within, write_bytes};
 pub use failure::{Failure, Stop, status, write_failure, write_settled};
-pub use places::{Place, word_at, write_place};
+pub use places::Place;
 pub use scp_device::{BadLine, BadWord, Expected};
 pub use scp_sim_options::SimAsked;
 pub use stream::{Cause, Stream, Unopened};

@@ -30,7 +30,7 @@ fn part_at(text: &[u8], end: u8, place: usize) -> Option<&[u8]>
 }
 
 /// The word of a text at this line and place, each counted from 1. A line ends with a line feed, and a word with a space.
-pub fn word_at(text: &[u8], line: usize, word: usize) -> Option<&[u8]>
+fn word_at(text: &[u8], line: usize, word: usize) -> Option<&[u8]>
     ensures { option_map (λ part. part.now) result ≡ word_in text.entry.now line word }
 {
     match part_at(text, b'\n', line) {
