@@ -5,7 +5,7 @@ ghost use Rattle.scp_command.specs.Answers.{IsJust};
 use std::alloc::Global;
 
 /// What a command makes of its input.
-#[derive(Debug, Drop)]
+#[derive(Drop)]
 pub struct Answer {
     /// The bytes for the output.
     pub text: Vec<u8>,
@@ -15,7 +15,7 @@ pub struct Answer {
 
 impl Answer {
     /// An answer made of a text, without notices.
-    pub fn of_text(alloc: Global, text: String) -> Answer
+    pub(crate) fn of_text(alloc: Global, text: String) -> Answer
         ensures { IsJust (string_bytes text) result }
     {
         Answer {
@@ -25,7 +25,7 @@ impl Answer {
     }
 
     /// An answer made of bytes, without notices.
-    pub fn of_bytes(alloc: Global, text: Vec<u8>) -> Answer
+    pub(crate) fn of_bytes(alloc: Global, text: Vec<u8>) -> Answer
         ensures { IsJust text.items result }
     {
         Answer {
