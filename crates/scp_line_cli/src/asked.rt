@@ -7,7 +7,7 @@ use scp_types::Fault;
 use std::alloc::{AllocError, Global};
 
 /// How a script is played.
-#[derive(Clone, Copy, Debug, PartialEq, Eq)]
+#[derive(Clone, Copy, PartialEq, Eq)]
 pub enum Mode {
     /// One step after another.
     Serial,
@@ -16,7 +16,7 @@ pub enum Mode {
 }
 
 /// What the words of a command line ask for.
-#[derive(Clone, Copy, Debug, PartialEq, Eq)]
+#[derive(Clone, Copy, PartialEq, Eq)]
 pub enum Asked<'a> {
     Run(Mode),
     Check,

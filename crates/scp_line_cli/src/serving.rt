@@ -61,7 +61,7 @@ fn tell<W: ReportOut>(fault: PlayFault, writer: &mut W) -> u8
 /// Plays a script, one step after another, and returns 0 if its reports were written. Else the fault is reported by its line, if the writer
 /// takes it, and its status is returned: 1 if the script was refused, else 3.
 #[tactic(auto, using(crate::proofs::Told::told_after, crate::proofs::Told::unplayed))]
-pub fn serve_run<R: ScriptIn, W: ReportOut>(alloc: Global, reader: &mut R, writer: &mut W) -> u8
+fn serve_run<R: ScriptIn, W: ReportOut>(alloc: Global, reader: &mut R, writer: &mut W) -> u8
     ensures few { result ≤ 3 }
     ensures no_usage { result ≢ 2 }
     // What was read is a script of at most 1,048,576 bytes, and what was written is its reports.
@@ -78,7 +78,7 @@ pub fn serve_run<R: ScriptIn, W: ReportOut>(alloc: Global, reader: &mut R, write
 /// Plays a script with nodes whose stages run in threads, and returns 0 if its reports were written. Else the fault is reported as
 /// `serve_run` reports it.
 #[tactic(auto, using(crate::proofs::Told::told_after, crate::proofs::Told::unplayed_in_threads))]
-pub fn serve_threads<T: Threads + Wait + Sync, R: ScriptIn, W: ReportOut>(
+fn serve_threads<T: Threads + Wait + Sync, R: ScriptIn, W: ReportOut>(
     rt: &T,
     alloc: Global,
     reader: &mut R,
@@ -99,7 +99,7 @@ pub fn serve_threads<T: Threads + Wait + Sync, R: ScriptIn, W: ReportOut>(
 
 /// Checks a script, and returns 0 if it is one and `ok` was written. Else the fault is reported as `serve_run` reports it.
 #[tactic(auto, using(crate::proofs::Told::told_after, crate::proofs::Told::unchecked))]
-pub fn serve_check<R: ScriptIn, W: ReportOut>(alloc: Global, reader: &mut R, writer: &mut W) -> u8
+fn serve_check<R: ScriptIn, W: ReportOut>(alloc: Global, reader: &mut R, writer: &mut W) -> u8
     ensures few { result ≤ 3 }
     ensures no_usage { result ≢ 2 }
     // What was read is a script of at most 1,048,576 bytes, and `ok` was written.
@@ -116,7 +116,7 @@ pub fn serve_check<R: ScriptIn, W: ReportOut>(alloc: Global, reader: &mut R, wri
 /// Shows the message that the hex digits encode, and returns 0 if its line was written. Else the fault is reported as `serve_run` reports it.
 /// No input is read.
 #[tactic(auto, using(crate::proofs::Told::told_after))]
-pub fn serve_decode<W: ReportOut>(alloc: Global, hex: &str, writer: &mut W) -> u8
+fn serve_decode<W: ReportOut>(alloc: Global, hex: &str, writer: &mut W) -> u8
     ensures few { result ≤ 3 }
     ensures no_usage { result ≢ 2 }
     ensures shown { result ≡ 0 → (text : List ℕ) × IsShown hex.now text × Gains (W.written writer.old) text (W.written writer.new) }
@@ -130,7 +130,7 @@ pub fn serve_decode<W: ReportOut>(alloc: Global, hex: &str, writer: &mut W) -> u
 }
 
 /// Writes `usage`, and returns 2. No input is read.
-pub fn serve_usage<W: ReportOut>(writer: &mut W) -> u8
+fn serve_usage<W: ReportOut>(writer: &mut W) -> u8
     ensures status { result ≡ 2 }
     ensures usage { IsWritten W.written W.failures writer.old (codes "usage\n") writer.new }
 {
