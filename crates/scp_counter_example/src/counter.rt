@@ -10,7 +10,7 @@ use std::alloc::Global;
 
 /// The counter. A value is a number of eight bytes, the highest first; the least candidate is the composite, so that the counter
 /// grows by as little as anybody proposes; and a number below the counter is refused.
-#[derive(Clone, Copy, Debug, Drop)]
+#[derive(Clone, Copy, Drop)]
 pub struct Counter;
 
 /// The number that a value spells, if it has eight bytes.
