@@ -10,7 +10,7 @@ const LIMIT: usize = 4_096;
 
 /// One byte is fully validated; more bytes may be valid up to the limit; no bytes, and bytes over the limit, are invalid. The first byte is
 /// what is extracted from a value. The first candidate is the composite, and rounds lead in turn, whatever the slot.
-#[derive(Clone, Copy, Debug)]
+#[derive(Clone, Copy)]
 pub struct ByteDriver;
 
 impl Driver for ByteDriver {

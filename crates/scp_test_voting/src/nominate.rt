@@ -14,7 +14,7 @@ use std::process::Abort;
 use std::test::*;
 
 /// What a nominator is given: another node's votes and accepted values, or a proposal.
-#[derive(Clone, Copy, Debug)]
+#[derive(Clone, Copy)]
 enum Input {
     Hears(u8, Values, Values),
     Proposes(&'static [u8]),
