@@ -11,7 +11,7 @@ use std::marker::Model;
 
 /// The sending end of a link: how often the link was opened, and whether it is open. Whoever sends what a call gives
 /// keeps the tail that the call gives with it.
-#[derive(Debug, Drop)]
+#[derive(Drop)]
 pub struct Tail {
     life: u32,
     is_open: bool,
@@ -32,7 +32,7 @@ impl Model for Tail {
 }
 
 /// What goes over a link next, and the link's tail after it.
-#[derive(Debug, Drop)]
+#[derive(Drop)]
 pub struct Next {
     /// What is sent.
     pub item: LinkItem,
