@@ -61,59 +61,6 @@ fn deep_set(alloc: Global, inner: QuorumSet, levels: u32) -> Result<QuorumSet, F
     Ok(set)
 }
 
-/// Nodes, whether they satisfy a set, and whether they block it.
-type Case = (&'static [u32], bool, bool);
-
-/// Whether the set is satisfied and blocked as the case says.
-fn is_case(alloc: Global, set: &QuorumSet, case: Case) -> Result<bool, Fault> {
-    let (numbers, satisfying, blocking) = case;
-    let mut given = BTreeSet::new(alloc);
-    for number in numbers {
-        given.insert(node(*number))?;
-    }
-    Ok(satisfied(set, &given) == satisfying && blocked(set, &given) == blocking)
-}
-
-/// Two of three, three of three, node 1 and one of nodes 2 and 3, and node 7 alone.
-const CASES: [(Shape, &[Case]); 4] = [
-    (
-        Shape(2, &[1, 2, 3], &[]),
-        &[
-            (&[1], false, false),
-            (&[1, 2], true, true),
-            (&[4], false, false),
-        ],
-    ),
-    (
-        Shape(3, &[1, 2, 3], &[]),
-        &[(&[1], false, true), (&[1, 2], false, true)],
-    ),
-    (
-        Shape(2, &[1], &[(1, &[2, 3])]),
-        &[
-            (&[1], false, true),
-            (&[1, 3], true, true),
-            (&[2], false, false),
-            (&[2, 3], false, true),
-        ],
-    ),
-    (
-        Shape(1, &[7], &[]),
-        &[(&[7], true, true), (&[6], false, false)],
-    ),
-];
-
-#[test]
-fn sets_are_satisfied_and_blocked(rt: HostRuntime) -> Result<(), Fail> {
-    for (shape, cases) in CASES {
-        let set = set_of(rt.alloc(), shape)?;
-        for case in cases {
-            assert!(rt; is_case(rt.alloc(), &set, *case)?, "{shape:?} at {case:?}");
-        }
-    }
-    Ok(())
-}
-
 /// Whether the nodes have these numbers, in this order.
 fn are_nodes(nodes: &[NodeId], numbers: &[u32]) -> bool {
     nodes.len() == numbers.len()
@@ -268,6 +215,13 @@ fn any_node_is_alone(rt: HostRuntime) -> Result<(), Fail> {
     Ok(())
 }
 
+/// Whether node 1 satisfies the set, and blocks it.
+fn is_up_to_node_1(alloc: Global, set: &QuorumSet) -> Result<bool, Fault> {
+    let mut given = BTreeSet::new(alloc);
+    given.insert(node(1))?;
+    Ok(satisfied(set, &given) && blocked(set, &given))
+}
+
 /// Whether the set is insane and too long to be encoded, and all its levels are copied, listed and asked.
 fn is_too_deep(alloc: Global, set: &QuorumSet) -> Result<bool, Fault> {
     if set.is_sane()
@@ -277,7 +231,7 @@ fn is_too_deep(alloc: Global, set: &QuorumSet) -> Result<bool, Fault> {
         return Ok(false);
     }
     let copy = set.copy()?;
-    Ok(are_nodes(&copy.nodes()?, &[1]) && is_case(alloc, &copy, (&[1], true, true))?)
+    Ok(are_nodes(&copy.nodes()?, &[1]) && is_up_to_node_1(alloc, &copy)?)
 }
 
 /// A set has at most five levels of inner sets, one more than can be encoded.
@@ -300,23 +254,6 @@ fn the_deepest_inner_set_counts(rt: HostRuntime) -> Result<(), Fail> {
     inner_sets.push(flat(alloc, (1, &[3]))?)?;
     let made = QuorumSet::new(1, Vec::new(alloc), inner_sets);
     assert_eq!(rt; made.err(), Some(Fault::TooLong));
-    Ok(())
-}
-
-/// Whether 1 of this many nodes is sane.
-fn is_one_of_sane(alloc: Global, count: u32) -> Result<bool, Fault> {
-    let mut validators = Vec::new(alloc);
-    for number in 0..count {
-        validators.push(node(number))?;
-    }
-    Ok(QuorumSet::of_nodes(1, validators).is_sane())
-}
-
-/// More nodes at one level can be made than can be read.
-#[test]
-fn a_sane_set_has_at_most_1_000_nodes(rt: HostRuntime) -> Result<(), Fail> {
-    assert!(rt; is_one_of_sane(rt.alloc(), 1_000)?);
-    assert!(rt; !is_one_of_sane(rt.alloc(), 1_001)?);
     Ok(())
 }
 

@@ -1,50 +1,7 @@
 use crate::twice::{ballot_of, is_right_or_out_of_memory};
 use scp_types::*;
 use std::alloc::Global;
-use std::cmp::Ordering;
-use std::collections::BTreeSet;
 use std::test::*;
-
-/// Whether the first is less than the second, by each way to ask.
-fn is_less<T: Ord>(low: &T, high: &T) -> bool {
-    low < high
-        && low != high
-        && high.cmp(low) == Ordering::Greater
-        && low.cmp(low) == Ordering::Equal
-}
-
-/// A counter, and the bytes of a value.
-type Short = (u32, &'static [u8]);
-
-/// Whether the ballot is less than the other one; and, if their counters are equal, its value than the other's.
-fn is_below(alloc: Global, low: &Ballot, high: Short) -> Result<bool, Fault> {
-    let (counter, bytes) = high;
-    let high = ballot_of(alloc, counter, bytes)?;
-    let is_value_less = low.counter != counter || is_less(low.value.get(), high.value.get());
-    Ok(is_value_less && is_less(low, &high))
-}
-
-/// Each is less than the next: a ballot by its counter first; a value that another one begins with is less than that one.
-const ASCENDING: [Short; 6] = [
-    (1, &[9, 9]),
-    (2, &[]),
-    (2, &[1]),
-    (2, &[1, 0]),
-    (2, &[2]),
-    (u32::MAX, &[1]),
-];
-
-#[test]
-fn ballots_are_ordered_by_counter_and_bytes(rt: HostRuntime) -> Result<(), Fail> {
-    let mut ballots = BTreeSet::new(rt.alloc());
-    for ((counter, bytes), high) in ASCENDING.iter().zip(ASCENDING.iter().skip(1)) {
-        let low = ballot_of(rt.alloc(), *counter, bytes)?;
-        assert!(rt; is_below(rt.alloc(), &low, *high)?, "{high:?}");
-        ballots.insert(low)?;
-    }
-    assert_eq!(rt; ballots.len(), 5);
-    Ok(())
-}
 
 #[test]
 fn names_are_ordered_by_their_parts(rt: HostRuntime) {
