@@ -1,5 +1,5 @@
 //! The tests of `scp_envelope`, by its public calls: what only a caller sees. The calls in examples/bytes_of_envelopes.calls show the bytes
-//! of envelopes, and where they are wrong.
+//! of envelopes, and where they are wrong; those in examples/slot.calls which of two sane statements is newer.
 #![tactic(auto)]
 
 #[cfg(test)]

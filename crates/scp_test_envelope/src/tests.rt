@@ -52,8 +52,9 @@ fn list(alloc: Global, bytes: &[u8]) -> Result<ValueList, Fault> {
     Ok(ValueList::new(values))
 }
 
-/// What the statement says, in full. It names this quorum set.
-fn pledges(alloc: Global, said: Said, set_hash: Hash) -> Result<Pledges, Fault> {
+/// What the statement says, in full.
+fn pledges(alloc: Global, said: Said) -> Result<Pledges, Fault> {
+    let set_hash = Hash([2; 32]);
     match said {
         Said::Prepare(short, prepared, prime, n_commit, n_high) => Ok(Pledges::Prepare(Prepare {
             set_hash,
@@ -88,6 +89,6 @@ fn stated(alloc: Global, said: Said) -> Result<Statement, Fault> {
     Ok(Statement {
         node: NodeId([1; 32]),
         slot: Slot(1),
-        pledges: pledges(alloc, said, Hash([2; 32]))?,
+        pledges: pledges(alloc, said)?,
     })
 }

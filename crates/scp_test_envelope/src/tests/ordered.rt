@@ -20,7 +20,7 @@ const NOMINATE: Said = Said::Nominate(b"a", b"b");
 /// A statement, and which other ones are newer than it.
 type Newer = (Said, &'static [(Said, bool)]);
 
-const NEWER: [Newer; 12] = [
+const NEWER: [Newer; 18] = [
     // a later kind
     (
         PREPARE,
@@ -117,6 +117,46 @@ const NEWER: [Newer; 12] = [
         Said::Nominate(b"", b""),
         &[(Said::Nominate(b"", b"a"), true)],
     ),
+    // nH counts last, also where it is over the prepared counter, or over a CONFIRM's own, which isn't sane
+    (
+        Said::Prepare((1, 5), None, None, 0, 0),
+        &[(Said::Prepare((1, 5), None, None, 0, 1), true)],
+    ),
+    (
+        Said::Prepare((1, 5), None, None, 0, 1),
+        &[
+            (Said::Prepare((1, 5), None, None, 0, 0), false),
+            (Said::Prepare((1, 5), None, None, 0, 1), false),
+            (Said::Prepare((1, 5), None, None, 0, u32::MAX), true),
+            (Said::Prepare((1, 5), None, Some((1, 5)), 0, 0), true),
+        ],
+    ),
+    (
+        Said::Prepare((1, 5), Some((1, 6)), None, 0, 0),
+        &[(Said::Prepare((1, 5), Some((1, 6)), None, 0, u32::MAX), true)],
+    ),
+    (
+        Said::Prepare((1, 5), Some((1, 6)), None, 0, u32::MAX),
+        &[
+            (Said::Prepare((1, 5), Some((1, 6)), None, 0, 0), false),
+            (
+                Said::Prepare((1, 5), Some((1, 6)), Some((0, 0)), 0, 0),
+                true,
+            ),
+        ],
+    ),
+    (
+        Said::Confirm((1, 5), 0, 0, 1),
+        &[(Said::Confirm((1, 5), 0, 0, u32::MAX), true)],
+    ),
+    (
+        Said::Confirm((1, 5), 0, 0, u32::MAX),
+        &[
+            (Said::Confirm((1, 5), 0, 0, 1), false),
+            (Said::Confirm((1, 5), 0, 0, u32::MAX), false),
+            (Said::Confirm((1, 5), 1, 0, 0), true),
+        ],
+    ),
 ];
 
 #[test]
@@ -130,77 +170,6 @@ fn newer_says_more(rt: HostRuntime) -> Result<(), Fail> {
                 "{old:?} {new:?}"
             );
         }
-    }
-    Ok(())
-}
-
-/// Field by field, each newer than those before it.
-const PREPARES: [Said; 16] = [
-    Said::Prepare((1, 5), None, None, 0, 0),
-    Said::Prepare((1, 5), None, None, 0, 1),
-    Said::Prepare((1, 5), None, Some((1, 5)), 0, 0),
-    Said::Prepare((1, 5), None, Some((1, 6)), 0, 0),
-    Said::Prepare((1, 5), None, Some((2, 4)), 0, 0),
-    Said::Prepare((1, 5), None, Some((2, 5)), 0, 0),
-    Said::Prepare((1, 5), Some((0, 0)), None, 0, 0),
-    Said::Prepare((1, 5), Some((1, 5)), None, 0, 0),
-    Said::Prepare((1, 5), Some((1, 6)), None, 0, 0),
-    Said::Prepare((1, 5), Some((1, 6)), None, 0, u32::MAX),
-    Said::Prepare((1, 5), Some((1, 6)), Some((0, 0)), 0, 0),
-    Said::Prepare((1, 5), Some((2, 0)), None, 0, 0),
-    Said::Prepare((1, 5), Some((2, 5)), None, 0, 0),
-    Said::Prepare((1, 6), None, None, 0, 0),
-    Said::Prepare((2, 0), None, None, 0, 0),
-    Said::Prepare((2, 5), None, None, 0, 0),
-];
-
-const CONFIRMS: [Said; 8] = [
-    Said::Confirm((1, 5), 0, 0, 0),
-    Said::Confirm((1, 5), 0, 0, 1),
-    Said::Confirm((1, 5), 0, 0, u32::MAX),
-    Said::Confirm((1, 5), 1, 0, 0),
-    Said::Confirm((1, 5), 1, 0, 1),
-    Said::Confirm((1, 6), 0, 0, 0),
-    Said::Confirm((2, 0), 0, 0, 0),
-    Said::Confirm((2, 5), 0, 0, 0),
-];
-
-#[test]
-fn statements_ascend_field_by_field(rt: HostRuntime) -> Result<(), Fail> {
-    for each in [PREPARES.as_slice(), &CONFIRMS] {
-        for (i, old) in each.iter().enumerate() {
-            let statement = stated(rt.alloc(), *old)?;
-            for (j, new) in each.iter().enumerate() {
-                assert_eq!(rt;
-                    is_newer(rt.alloc(), &statement, *new)?,
-                    i < j,
-                    "{old:?} {new:?}"
-                );
-            }
-        }
-    }
-    Ok(())
-}
-
-/// Whether the same statement with another quorum set is neither newer nor older, and names that set.
-fn ignores_the_set(alloc: Global, old: &Statement, said: Said) -> Result<bool, Fault> {
-    let new = Envelope {
-        statement: Statement {
-            node: old.node,
-            slot: old.slot,
-            pledges: pledges(alloc, said, Hash([3; 32]))?,
-        },
-        signature: Signature::new(Vec::new(alloc)),
-    };
-    let is_either = newer(old, &new.statement) || newer(&new.statement, old);
-    Ok(!is_either && new.set_hash() == Hash([3; 32]))
-}
-
-#[test]
-fn the_quorum_set_does_not_count(rt: HostRuntime) -> Result<(), Fail> {
-    for said in [PREPARE, CONFIRM, EXTERNALIZE, NOMINATE] {
-        let old = stated(rt.alloc(), said)?;
-        assert!(rt; ignores_the_set(rt.alloc(), &old, said)?, "{said:?}");
     }
     Ok(())
 }
