@@ -1,4 +1,4 @@
-//! The tests of `scp_wire`, `scp_outbox` and `scp_outbox`, by their public calls.
+//! The tests of `scp_wire` and `scp_outbox`, by their public calls.
 //!
 //! The calls in `examples/` show what bytes are read as, where they are wrong, and the limits of
 //! what is read. Here are the tests of what only a caller sees.

@@ -1,4 +1,4 @@
-//! What the items of one link are read as.
+//! What the items of one link are read as behind its last number. examples/stages.calls shows what they are read as before.
 use crate::bytes::*;
 use scp_types::{CARRIED_LIMIT, ConnId, Fault, NodeId};
 use scp_wire::{Bytes, Carried, Cause, Inbound, LinkItem, LinkReader, Message};
@@ -88,17 +88,8 @@ fn first_wrong(
     Ok(None)
 }
 
-/// A life on which a batch and then a request are read, and a second life.
-const LIVES: [(Comes, Read); 14] = [
-    (Comes::Opened(1), Read::Opened(1)),
-    (Comes::Bytes(1, &BATCH), Read::Record(1, 0, 1)),
-    (Comes::Nothing, Read::Record(1, 1, 2)),
-    (Comes::Nothing, Read::Record(1, 2, 3)),
-    (Comes::Nothing, Read::Nothing),
-    (Comes::Bytes(1, &GET_RECORD), Read::Asks(1, 3)),
-    (Comes::Closed(1), Read::Closed(1, Cause::Link)),
-    (Comes::Opened(2), Read::Opened(2)),
-    // the rest of a batch comes before the next item
+/// A second life: the numbers begin again at 0, and the rest of a batch comes before the next item.
+const SECOND: [(Comes, Read); 6] = [
     (Comes::Bytes(2, &BATCH), Read::Record(2, 0, 1)),
     (Comes::Closed(2), Read::Rest),
     (Comes::Nothing, Read::Record(2, 1, 2)),
@@ -106,32 +97,6 @@ const LIVES: [(Comes, Read); 14] = [
     (Comes::Nothing, Read::Record(2, 2, 3)),
     (Comes::Closed(2), Read::Closed(2, Cause::Link)),
 ];
-
-/// Side messages come between the carried ones. A batch without a reading gives no record, and ends its life.
-const BETWEEN: [(Comes, Read); 9] = [
-    (Comes::Opened(1), Read::Opened(1)),
-    (Comes::Bytes(1, &GET_SET), Read::Side(1)),
-    (Comes::Bytes(1, &RECORD), Read::Record(1, 0, 1)),
-    (Comes::Bytes(1, &NO_SET), Read::Side(1)),
-    (Comes::Bytes(1, &GET_RECORD), Read::Asks(1, 1)),
-    (Comes::Bytes(1, &TWO_OF_THREE), Read::Side(1)),
-    (
-        Comes::Bytes(1, &NO_RECORD),
-        Read::Closed(1, Cause::Malformed),
-    ),
-    (Comes::Nothing, Read::Nothing),
-    (Comes::Bytes(1, &BATCH), Read::Nothing),
-];
-
-#[test]
-fn items_are_read_in_turn(rt: HostRuntime) -> Result<(), Fail> {
-    for rows in [LIVES.as_slice(), &BETWEEN] {
-        let mut reader = LinkReader::new(rt.alloc());
-        let wrong = first_wrong(&mut reader, rt.alloc(), rows)?;
-        assert!(rt; wrong.is_none(), "{wrong:?}");
-    }
-    Ok(())
-}
 
 /// With one number left, the first record of a batch has it, and the second ends the connection.
 const ONE_LEFT: [(Comes, Read); 5] = [
@@ -178,7 +143,7 @@ fn expect_end(
     rows: &[(Comes, Read)],
 ) -> Result<(), Fault> {
     let mut reader = asked(alloc, count)?.expect(rt, "numbers in turn");
-    for rows in [rows, &LIVES[8..]] {
+    for rows in [rows, &SECOND] {
         let wrong = first_wrong(&mut reader, alloc, rows)?;
         assert!(rt; wrong.is_none(), "{wrong:?}");
     }
