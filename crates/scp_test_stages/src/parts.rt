@@ -30,15 +30,11 @@ pub fn conn(from: NodeId, life: u32) -> ConnId {
     ConnId { from, to: ME, life }
 }
 
-/// The quorum set of this number: 1 is node 1's own, both of nodes 1 and 2; 2 to 4 are those of this node alone; 0 isn't sane, 0 of
-/// node 2.
+/// The quorum set of this number: 1 is node 1's own, both of nodes 1 and 2; each other is node 2 alone.
 pub fn set(alloc: Global, number: u8) -> Result<QuorumSet, Fault> {
     let (threshold, nodes) = match number {
-        0 => (0, [TWO].as_slice()),
         1 => (2, [ME, TWO].as_slice()),
-        2 => (1, [TWO].as_slice()),
-        3 => (1, [THREE].as_slice()),
-        _ => (1, [FOUR].as_slice()),
+        _ => (1, [TWO].as_slice()),
     };
     Ok(QuorumSet::of_nodes(threshold, Vec::from_slice(alloc, nodes)?))
 }

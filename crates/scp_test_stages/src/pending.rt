@@ -4,7 +4,7 @@ use Event::*;
 use scp_envelope::{Nominate, Pledges, ValueList};
 use scp_pending::Pending;
 use scp_types::{ConnId, Fault, NodeId};
-use scp_wire::{Carried, Cause, Command, Inbound, Message, SideMessage};
+use scp_wire::{Cause, Command, Inbound, Message, SideMessage};
 use std::alloc::Global;
 use std::process::Abort;
 use std::test::*;
@@ -38,9 +38,6 @@ struct Case<'a> {
     held: usize,
     waiting: &'a [ConnId],
 }
-
-/// A parked envelope: its connection, its number there, its slot, and the set that it names.
-type Place = (ConnId, u64, u64, u8);
 
 /// The first connections of nodes 2 and 3, and the second of node 2.
 const FIRST: ConnId = ConnId {
@@ -288,57 +285,5 @@ fn held_messages_and_waiting_connections(rt: HostRuntime) -> Result<(), Fail> {
             case.events.len()
         );
     }
-    Ok(())
-}
-
-/// Whether the message is at this place.
-fn is_at(alloc: Global, carried: &Carried, place: &Place) -> Result<bool, Fault> {
-    let (conn, seq, slot, number) = *place;
-    let wanted = hash(alloc, number)?;
-    let Message::Envelope(envelope) = carried.message.get() else {
-        return Ok(false);
-    };
-    Ok(
-        carried.conn == conn
-            && carried.seq.0 == seq
-            && envelope.get().statement.slot.0 == slot
-            && envelope.set_hash() == wanted,
-    )
-}
-
-/// Whether exactly these are parked after the events, in this order.
-fn parks(alloc: Global, events: &[(u64, Event)], places: &[Place]) -> Result<bool, Fault> {
-    let mut pending = stage(alloc)?;
-    play(alloc, &mut pending, events)?;
-    let parked = pending.into_parked()?;
-    for (carried, place) in parked.iter().zip(places) {
-        if !is_at(alloc, carried, place)? {
-            return Ok(false);
-        }
-    }
-    Ok(parked.len() == places.len())
-}
-
-/// Node 3's queue begins to wait first. Node 2's second message is lost (its set isn't sane), and stays behind the first of its lane; its
-/// third message has its set.
-#[test]
-fn parked_messages_come_by_sender_and_number(rt: HostRuntime) -> Result<(), Fail> {
-    let events = [
-        (1, Names(OTHER, 0, 1, 2)),
-        (1, Names(FIRST, 0, 7, 3)),
-        (1, Names(FIRST, 1, 7, 0)),
-        (1, Names(FIRST, 2, 7, 1)),
-        (1, Names(FIRST, 3, 8, 1)),
-        (1, Names(OTHER, 1, 9, 4)),
-        (1, Set(OTHER, 0)),
-    ];
-    let places = [
-        (FIRST, 0, 7, 3),
-        (FIRST, 1, 7, 0),
-        (FIRST, 2, 7, 1),
-        (OTHER, 0, 1, 2),
-        (OTHER, 1, 9, 4),
-    ];
-    assert!(rt; parks(rt.alloc(), &events, &places)?);
     Ok(())
 }
