@@ -4,9 +4,8 @@ mod devices;
 mod reports;
 mod threads;
 
-use scp_line::{FailsAt, MemoryIn, MemoryOut, PlayFault, check, line_of_fault, play, status};
+use scp_line::{line_of_fault, status};
 use scp_types::{Fault, Stage};
-use std::alloc::Global;
 use std::process::Abort;
 use std::test::Fail;
 
@@ -23,32 +22,6 @@ const VERDICTS: &[u8] =
 
 const VERDICTS_REPORT: &[u8] =
     b"node 1\nconn 2 1\n0 taken decided\n1 taken already\n2 taken far-slot\n3 taken old-slot\n4 taken forwarded\n5 taken own\n6 taken bad-statement\n7 taken bad-value\n8 taken fresh\n9 taken stale\napplied 1 00000000 record 2 1 0\nend\n";
-
-/// The fault of a reader that fails.
-const UNREAD: PlayFault = PlayFault {
-    fault: Fault::Device,
-    node: 0,
-};
-
-/// Whether a play and a check report a reader that fails after so many reads, and write nothing.
-fn report_it(alloc: Global, calls: u64) -> bool {
-    let mut writer = MemoryOut::new(Vec::new(alloc));
-    let mut reader = FailsAt::new(MemoryIn::new(SCRIPT), calls);
-    let played = play(alloc, &mut reader, &mut writer);
-    let mut reader = FailsAt::new(MemoryIn::new(SCRIPT), calls);
-    let checked = check(alloc, &mut reader, &mut writer);
-    played == Err(UNREAD) && checked == Err(UNREAD) && writer.text().is_empty()
-}
-
-/// One read gives the whole script, and the next its end.
-#[test]
-fn a_reader_that_fails_is_reported(rt: HostRuntime) {
-    assert!(rt; report_it(rt.alloc(), 0));
-    assert!(rt; report_it(rt.alloc(), 1));
-    let mut writer = MemoryOut::new(Vec::new(rt.alloc()));
-    let mut reader = FailsAt::new(MemoryIn::new(SCRIPT), 2);
-    assert_eq!(rt; check(rt.alloc(), &mut reader, &mut writer), Ok(()));
-}
 
 /// The lines of a node that failed, and of its stages.
 const LINES: [(u8, Fault, &str); 5] = [

@@ -1,4 +1,3 @@
 //! A node as a process.
 mod devices;
 mod faults;
-mod inputs;

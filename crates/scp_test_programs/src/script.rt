@@ -1,6 +1,6 @@
 //! What a script is read as. Scripts that are refused, and at which line, are in examples/scripts.calls.
-use scp_script::{Command, capacities_of, count_of_nodes, id_from, parse, peers_of_node};
-use scp_types::{Capacities, NodeId};
+use scp_script::{Command, capacities_of, count_of_nodes, parse};
+use scp_types::Capacities;
 use std::process::Abort;
 use std::test::Fail;
 
@@ -35,13 +35,5 @@ fn a_script_is_a_list_of_commands(rt: HostRuntime) -> Result<(), Fail> {
     assert!(rt; are_the_commands(script.as_slice()));
     assert!(rt; capacities_of(script.as_slice()) == want);
     assert_eq!(rt; count_of_nodes(script.as_slice()), 3);
-    Ok(())
-}
-
-#[test]
-fn the_peers_are_the_others_ascending(rt: HostRuntime) -> Result<(), Fail> {
-    let peers = peers_of_node(rt.alloc(), 4, 2)?;
-    assert!(rt; peers.as_slice() == [id_from(1), id_from(3), id_from(4)].as_slice());
-    assert_eq!(rt; id_from(8), NodeId([8; 32]));
     Ok(())
 }

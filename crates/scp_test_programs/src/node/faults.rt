@@ -8,7 +8,7 @@ use std::str;
 use std::test::Fail;
 
 /// A record of slot 1, which is asked for; a proposal for slot 2; a line that is none; a question. Six lines are events.
-pub const INPUT: &[u8] =
+const INPUT: &[u8] =
     b"open bob\nask bob 1\nrecv bob 00000006000000000000000100000018000000010000000000000001610000000000000131000000\npropose 2 000000010000000000000001620000000000000132000000\nround 2\nnonsense\nclose bob\nstate\n";
 
 /// The ends of the answers to the events of the input, each with how many events are answered there.
