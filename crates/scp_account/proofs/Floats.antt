@@ -5,21 +5,21 @@ use Rattle.std.specs.Global.{Vec}
 use Rattle.serde_json.specs.Data.{Data}
 use Rattle.serde_json.specs.View.{items_of}
 use Rattle.serde_json.specs.Written.{compact_text, has_float, items_have_float}
-use Rattle.scp_types.specs.declared.names.NodeId.{NodeId}
-use Rattle.scp_types.specs.declared.names.Hash.{Hash}
-use Rattle.scp_types.specs.declared.names.Seq.{Seq}
-use Rattle.scp_types.specs.Same.{same_node}
-use Rattle.scp_quorum.specs.SharedSet.{SharedSet}
-use Rattle.scp_wire.specs.declared.link.Command.{Command}
-use Rattle.scp_wire.specs.declared.link.Command.TheVariants.{Tick, Propose, Round, Timer, Ask}
-use Rattle.scp_wire.specs.declared.link.LinkItem.{LinkItem}
-use Rattle.scp_wire.specs.declared.link.LinkItem.TheVariants as item
-use Rattle.scp_ledger.specs.declared.journal.Decision.{Decision}
-use Rattle.scp_ledger.specs.declared.journal.Fate.{Fate}
-use Rattle.scp_ledger.specs.declared.journal.Fate.TheVariants.{Taken, Dropped, Closed}
-use Rattle.scp_ledger.specs.declared.journal.Origin.{Origin}
-use Rattle.scp_ledger.specs.declared.journal.Origin.TheVariants.{Machine, Named}
-use Rattle.scp_ledger.specs.declared.took.CommandFate.{CommandFate}
+use Rattle.scp_line.specs.scp_types.specs.declared.names.NodeId.{NodeId}
+use Rattle.scp_line.specs.scp_types.specs.declared.names.Hash.{Hash}
+use Rattle.scp_line.specs.scp_types.specs.declared.names.Seq.{Seq}
+use Rattle.scp_line.specs.scp_types.specs.Same.{same_node}
+use Rattle.scp_line.specs.scp_quorum.specs.SharedSet.{SharedSet}
+use Rattle.scp_line.specs.scp_wire.specs.declared.link.Command.{Command}
+use Rattle.scp_line.specs.scp_wire.specs.declared.link.Command.TheVariants.{Tick, Propose, Round, Timer, Ask}
+use Rattle.scp_line.specs.scp_wire.specs.declared.link.LinkItem.{LinkItem}
+use Rattle.scp_line.specs.scp_wire.specs.declared.link.LinkItem.TheVariants as item
+use Rattle.scp_line.specs.scp_ledger.specs.declared.journal.Decision.{Decision}
+use Rattle.scp_line.specs.scp_ledger.specs.declared.journal.Fate.{Fate}
+use Rattle.scp_line.specs.scp_ledger.specs.declared.journal.Fate.TheVariants.{Taken, Dropped, Closed}
+use Rattle.scp_line.specs.scp_ledger.specs.declared.journal.Origin.{Origin}
+use Rattle.scp_line.specs.scp_ledger.specs.declared.journal.Origin.TheVariants.{Machine, Named}
+use Rattle.scp_line.specs.scp_ledger.specs.declared.took.CommandFate.{CommandFate}
 use Rattle.scp_line.specs.scp_report.specs.declared.report.LinkReport.{LinkReport}
 use Rattle.scp_line.specs.scp_report.specs.declared.report.Parked.{Parked}
 use Rattle.scp_line.specs.scp_report.specs.Report.{ReportView}

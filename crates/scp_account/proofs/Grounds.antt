@@ -2,10 +2,10 @@
 use Rattle.std.proofs.Common.{◌≡◌, ◌<◌, ℕ, suc, Bool, false, List, [], ◌∷◌, ◌++◌, length, Option, Some, None, Result, Ok, Err, sym, ◌∙◌, ap, arith}
 use Rattle.std.specs.Prelude.{All, OnOk, filter, fold, if◌then◌else◌}
 use Rattle.serde_json.specs.Data.{Data}
-use Rattle.scp_types.specs.declared.names.NodeId.{NodeId}
-use Rattle.scp_types.specs.Same.{same_node}
-use Rattle.scp_ledger.specs.declared.journal.Fate.{Fate}
-use Rattle.scp_ledger.specs.Journal.{fresh_heard}
+use Rattle.scp_line.specs.scp_types.specs.declared.names.NodeId.{NodeId}
+use Rattle.scp_line.specs.scp_types.specs.Same.{same_node}
+use Rattle.scp_line.specs.scp_ledger.specs.declared.journal.Fate.{Fate}
+use Rattle.scp_line.specs.scp_ledger.specs.Journal.{fresh_heard}
 use Rattle.scp_account.specs.Decisions.{ground, ground_of}
 use Rattle.scp_account.specs.Fits.{FitsEntry}
 use Rattle.scp_account.specs.Spoken.{counting, last_of}

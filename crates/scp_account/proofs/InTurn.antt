@@ -2,7 +2,7 @@
 use Rattle.std.proofs.Common.{◌≡◌, ◌+◌, ◌<◌, ℕ, List, [], ◌++◌, Some, length, get_or, nat_eq, refl, sym, ◌∙◌, ap, subst, arith, map-id}
 use Rattle.std.specs.Prelude.{if◌then◌else◌}
 use Rattle.std.proofs.lemmas.Option.{same_Some, slice_get-get_or, slice_get_within}
-use Rattle.scp_line.specs.scp_turn.specs.scp_core.specs.Kv.{NodeView}
+use Rattle.scp_line.specs.scp_core.specs.Kv.{NodeView}
 use Rattle.scp_line.specs.scp_turn.specs.Commands.{TakenCommand, taken_by, AreInTurn}
 use Rattle.scp_line.specs.scp_turn.specs.Kv.{taken_over}
 use Rattle.scp_line.specs.scp_turn.specs.Heard.{past_at}

@@ -2,12 +2,12 @@
 use Rattle.std.proofs.Common.{◌≡◌, ℕ, Bool, true, false, cond, List, [], ◌∷◌, ◌++◌, map, Option, Some, None, Bor, Vec, refl, sym, ◌∙◌, ap}
 use Rattle.std.specs.Prelude.{filter, fold, nat_eq, All, if◌then◌else◌}
 use Rattle.std.specs.BTreeMap.{is_at}
-use Rattle.scp_types.specs.declared.names.NodeId.{NodeId}
-use Rattle.scp_quorum.specs.NodeSet.{node_cmp}
-use Rattle.scp_vote.specs.Board.{kind_of_pledges}
-use Rattle.scp_vote.specs.declared.claim.StatementKind.TheVariants.{Balloting}
-use Rattle.scp_ledger.specs.declared.journal.Fate.{Fate}
-use Rattle.scp_ledger.specs.Journal.{Heard, fresh_heard, same_kind}
+use Rattle.scp_line.specs.scp_types.specs.declared.names.NodeId.{NodeId}
+use Rattle.scp_line.specs.scp_quorum.specs.NodeSet.{node_cmp}
+use Rattle.scp_line.specs.scp_vote.specs.Board.{kind_of_pledges}
+use Rattle.scp_line.specs.scp_vote.specs.declared.claim.StatementKind.TheVariants.{Balloting}
+use Rattle.scp_line.specs.scp_ledger.specs.declared.journal.Fate.{Fate}
+use Rattle.scp_line.specs.scp_ledger.specs.Journal.{Heard, fresh_heard, same_kind}
 use Rattle.scp_account.specs.Fits.{FitsEntry}
 use Rattle.scp_account.specs.Spoken.{is_ballot_in, last_of, counting}
 use Rattle.scp_account.specs.inside.Spoken.{entries_or_none, is_in_slot, is_its, spoken, FitsIf}

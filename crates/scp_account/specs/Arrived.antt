@@ -3,9 +3,9 @@ use Rattle.std.specs.Prelude.{ℕ, ◌+◌, List, [], ◌∷◌, Option, Some, N
 use Rattle.std.specs.Global.{Vec}
 use Rattle.serde_json.specs.Data.{Data, null, string, array, object, member, no_members}
 use Rattle.serde_json.specs.View.{items_of}
-use Rattle.scp_types.specs.declared.names.NodeId.{NodeId}
-use Rattle.scp_wire.specs.declared.link.LinkItem.{LinkItem}
-use Rattle.scp_wire.specs.declared.link.LinkItem.TheVariants as item
+use Rattle.scp_line.specs.scp_types.specs.declared.names.NodeId.{NodeId}
+use Rattle.scp_line.specs.scp_wire.specs.declared.link.LinkItem.{LinkItem}
+use Rattle.scp_line.specs.scp_wire.specs.declared.link.LinkItem.TheVariants as item
 use Rattle.scp_line.specs.scp_report.specs.declared.report.LinkReport.{LinkReport}
 use Rattle.scp_account.specs.Pieces.{digits, id_json}
 

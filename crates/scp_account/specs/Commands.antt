@@ -1,10 +1,10 @@
 -- A command in an account, and what became of it (this project's profile).
 use Rattle.std.specs.Prelude.{codes}
 use Rattle.serde_json.specs.Data.{Data, string, object, member, no_members}
-use Rattle.scp_wire.specs.declared.link.Command.{Command}
-use Rattle.scp_wire.specs.declared.link.Command.TheVariants.{Tick, Propose, Round, Timer, Ask}
-use Rattle.scp_ledger.specs.declared.took.CommandFate.{CommandFate}
-use Rattle.scp_words.specs.Words.{fate_word}
+use Rattle.scp_line.specs.scp_wire.specs.declared.link.Command.{Command}
+use Rattle.scp_line.specs.scp_wire.specs.declared.link.Command.TheVariants.{Tick, Propose, Round, Timer, Ask}
+use Rattle.scp_line.specs.scp_ledger.specs.declared.took.CommandFate.{CommandFate}
+use Rattle.scp_line.specs.scp_words.specs.Words.{fate_word}
 use Rattle.scp_account.specs.Pieces.{count, digits}
 
 -- What became of a command, in the words of notices.

@@ -2,13 +2,13 @@
 use Rattle.std.specs.Prelude.{ℕ, List, [], ◌∷◌, Option, Some, None, map, flat_map, codes, if◌then◌else◌}
 use Rattle.serde_json.specs.Data.{Data, string, array, object, member, no_members}
 use Rattle.serde_json.specs.View.{items_of}
-use Rattle.scp_types.specs.declared.names.NodeId.{NodeId}
-use Rattle.scp_types.specs.Same.{same_node}
-use Rattle.scp_ledger.specs.declared.journal.Fate.{Fate}
-use Rattle.scp_ledger.specs.declared.journal.Fate.TheVariants.{Taken, Dropped, Closed}
-use Rattle.scp_ledger.specs.declared.journal.Origin.{Origin}
-use Rattle.scp_ledger.specs.declared.journal.Origin.TheVariants.{Machine, Named}
-use Rattle.scp_ledger.specs.declared.journal.Decision.{Decision}
+use Rattle.scp_line.specs.scp_types.specs.declared.names.NodeId.{NodeId}
+use Rattle.scp_line.specs.scp_types.specs.Same.{same_node}
+use Rattle.scp_line.specs.scp_ledger.specs.declared.journal.Fate.{Fate}
+use Rattle.scp_line.specs.scp_ledger.specs.declared.journal.Fate.TheVariants.{Taken, Dropped, Closed}
+use Rattle.scp_line.specs.scp_ledger.specs.declared.journal.Origin.{Origin}
+use Rattle.scp_line.specs.scp_ledger.specs.declared.journal.Origin.TheVariants.{Machine, Named}
+use Rattle.scp_line.specs.scp_ledger.specs.declared.journal.Decision.{Decision}
 use Rattle.scp_account.specs.Pieces.{count, digits, id_json, set_json, own_json}
 use Rattle.scp_account.specs.Spoken.{counting}
 

@@ -1,10 +1,10 @@
 -- An entry of a journal in an account (this project's profile).
 use Rattle.std.specs.Prelude.{codes}
 use Rattle.serde_json.specs.Data.{Data, string, object, member, no_members}
-use Rattle.scp_wire.specs.Lanes.{slot_of}
-use Rattle.scp_ledger.specs.declared.journal.Fate.{Fate}
-use Rattle.scp_ledger.specs.declared.journal.Fate.TheVariants.{Taken, Dropped, Closed}
-use Rattle.scp_words.specs.Words.{verdict_word, cause_word, drop_word}
+use Rattle.scp_line.specs.scp_wire.specs.Lanes.{slot_of}
+use Rattle.scp_line.specs.scp_ledger.specs.declared.journal.Fate.{Fate}
+use Rattle.scp_line.specs.scp_ledger.specs.declared.journal.Fate.TheVariants.{Taken, Dropped, Closed}
+use Rattle.scp_line.specs.scp_words.specs.Words.{verdict_word, cause_word, drop_word}
 use Rattle.scp_account.specs.Pieces.{count, id_json, beside_json, message_json, kind_word}
 
 -- What became of a message, or the end of a connection. A message that was taken has its bytes, and the bytes of the quorum set that it

@@ -1,16 +1,16 @@
 -- What can be encoded: the messages, quorum sets and envelopes of nodes that break no limit.
 use Rattle.std.specs.Prelude.{All, Option, Some, None}
-use Rattle.scp_xdr.specs.Kind.{Fits}
-use Rattle.scp_quorum.specs.QuorumTree.{QuorumTree}
-use Rattle.scp_quorum.specs.QuorumKind.{set_kind, set_value}
-use Rattle.scp_quorum.specs.SharedSet.{SharedSet}
-use Rattle.scp_envelope.specs.declared.statement.Envelope.{Envelope}
-use Rattle.scp_envelope.specs.Kinds.{envelope_kind, envelope_value}
-use Rattle.scp_wire.specs.Fitting.{IsFitting}
-use Rattle.scp_ledger.specs.declared.journal.Fate.{Fate}
-use Rattle.scp_ledger.specs.declared.journal.Fate.TheVariants.{Taken, Dropped, Closed}
-use Rattle.scp_ledger.specs.declared.journal.Origin.{Origin}
-use Rattle.scp_ledger.specs.declared.journal.Origin.TheVariants.{Machine, Named}
+use Rattle.scp_line.specs.scp_xdr.specs.Kind.{Fits}
+use Rattle.scp_line.specs.scp_quorum.specs.QuorumTree.{QuorumTree}
+use Rattle.scp_line.specs.scp_quorum.specs.QuorumKind.{set_kind, set_value}
+use Rattle.scp_line.specs.scp_quorum.specs.SharedSet.{SharedSet}
+use Rattle.scp_line.specs.scp_envelope.specs.declared.statement.Envelope.{Envelope}
+use Rattle.scp_line.specs.scp_envelope.specs.Kinds.{envelope_kind, envelope_value}
+use Rattle.scp_line.specs.scp_wire.specs.Fitting.{IsFitting}
+use Rattle.scp_line.specs.scp_ledger.specs.declared.journal.Fate.{Fate}
+use Rattle.scp_line.specs.scp_ledger.specs.declared.journal.Fate.TheVariants.{Taken, Dropped, Closed}
+use Rattle.scp_line.specs.scp_ledger.specs.declared.journal.Origin.{Origin}
+use Rattle.scp_line.specs.scp_ledger.specs.declared.journal.Origin.TheVariants.{Machine, Named}
 use Rattle.scp_line.specs.scp_report.specs.Report.{ReportView}
 
 -- The quorum set can be encoded.

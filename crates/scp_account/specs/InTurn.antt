@@ -1,9 +1,9 @@
 -- A fate that is kept of a script's run is that of its own line (this project's profile).
 use Rattle.std.specs.Prelude.{ℕ, ◌+◌, ◌≡◌, List, Some, slice_get}
-use Rattle.scp_line.specs.scp_turn.specs.scp_core.specs.Kv.{NodeView}
+use Rattle.scp_line.specs.scp_core.specs.Kv.{NodeView}
 use Rattle.scp_line.specs.scp_turn.specs.Commands.{AreInTurn}
 use Rattle.scp_line.specs.scp_turn.specs.Network.{NetworkView}
-use Rattle.scp_script.specs.declared.command.Command.{Command}
+use Rattle.scp_line.specs.scp_script.specs.declared.command.Command.{Command}
 use Rattle.scp_line.specs.Commands.{commands_to}
 use Rattle.scp_facts.specs.declared.happening.Kept.{Kept}
 use Rattle.scp_facts.specs.Taken.{happenings_at, obeyed_in}

@@ -1,4 +1,3 @@
-pub use Rattle.scp_facts
 pub use Rattle.scp_line.specs.scp_report
 pub mod Pieces
 pub mod Entries

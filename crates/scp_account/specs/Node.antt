@@ -2,7 +2,7 @@
 use Rattle.std.specs.Prelude.{ℕ, List, map, codes}
 use Rattle.serde_json.specs.Data.{Data, array, object, member, no_members}
 use Rattle.serde_json.specs.View.{items_of}
-use Rattle.scp_ledger.specs.declared.journal.Decision.{Decision}
+use Rattle.scp_line.specs.scp_ledger.specs.declared.journal.Decision.{Decision}
 use Rattle.scp_line.specs.scp_report.specs.Report.{ReportView}
 use Rattle.scp_facts.specs.declared.happening.Happening.{Happening}
 use Rattle.scp_facts.specs.Taken.{ticks}

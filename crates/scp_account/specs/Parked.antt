@@ -1,9 +1,9 @@
 -- What waits at a node for quorum sets (this project's profile).
 use Rattle.std.specs.Prelude.{Option, Some, None, codes}
 use Rattle.serde_json.specs.Data.{Data, null, object, member, no_members}
-use Rattle.scp_types.specs.declared.names.Hash.{Hash}
-use Rattle.scp_types.specs.declared.names.Seq.{Seq}
-use Rattle.scp_wire.specs.declared.carried.Carried.{Carried}
+use Rattle.scp_line.specs.scp_types.specs.declared.names.Hash.{Hash}
+use Rattle.scp_line.specs.scp_types.specs.declared.names.Seq.{Seq}
+use Rattle.scp_line.specs.scp_wire.specs.declared.carried.Carried.{Carried}
 use Rattle.scp_line.specs.scp_report.specs.declared.report.Parked.{Parked}
 use Rattle.scp_account.specs.Pieces.{count, digits, id_json, message_json}
 

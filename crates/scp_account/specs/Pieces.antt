@@ -2,18 +2,18 @@
 use Rattle.std.specs.Prelude.{ℕ, List, Option, Some, None, codes}
 use Rattle.hex.specs.Hex.{encode_lower}
 use Rattle.serde_json.specs.Data.{Data, null, number, unsigned, string}
-use Rattle.scp_types.specs.declared.names.NodeId.{NodeId}
-use Rattle.scp_xdr.specs.Kind.{spelling}
-use Rattle.scp_quorum.specs.QuorumTree.{QuorumTree}
-use Rattle.scp_quorum.specs.QuorumKind.{set_spelling}
-use Rattle.scp_quorum.specs.SharedSet.{SharedSet}
-use Rattle.scp_envelope.specs.declared.statement.Envelope.{Envelope}
-use Rattle.scp_envelope.specs.declared.statement.Pledges.{Pledges}
-use Rattle.scp_envelope.specs.declared.statement.Pledges.TheVariants.{Prepare, Confirm, Externalize, Nominate}
-use Rattle.scp_envelope.specs.Kinds.{envelope_kind, envelope_value}
-use Rattle.scp_wire.specs.declared.message.Message.{Message}
-use Rattle.scp_wire.specs.declared.message.Message.TheVariants as message
-use Rattle.scp_wire.specs.Message.{message_kind, message_value}
+use Rattle.scp_line.specs.scp_types.specs.declared.names.NodeId.{NodeId}
+use Rattle.scp_line.specs.scp_xdr.specs.Kind.{spelling}
+use Rattle.scp_line.specs.scp_quorum.specs.QuorumTree.{QuorumTree}
+use Rattle.scp_line.specs.scp_quorum.specs.QuorumKind.{set_spelling}
+use Rattle.scp_line.specs.scp_quorum.specs.SharedSet.{SharedSet}
+use Rattle.scp_line.specs.scp_envelope.specs.declared.statement.Envelope.{Envelope}
+use Rattle.scp_line.specs.scp_envelope.specs.declared.statement.Pledges.{Pledges}
+use Rattle.scp_line.specs.scp_envelope.specs.declared.statement.Pledges.TheVariants.{Prepare, Confirm, Externalize, Nominate}
+use Rattle.scp_line.specs.scp_envelope.specs.Kinds.{envelope_kind, envelope_value}
+use Rattle.scp_line.specs.scp_wire.specs.declared.message.Message.{Message}
+use Rattle.scp_line.specs.scp_wire.specs.declared.message.Message.TheVariants as message
+use Rattle.scp_line.specs.scp_wire.specs.Message.{message_kind, message_value}
 
 -- A number.
 abbrev pub count : ℕ → Data

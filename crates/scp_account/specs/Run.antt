@@ -2,7 +2,7 @@
 use Rattle.std.specs.Prelude.{ℕ, ◌≡◌, false, List, []}
 use Rattle.scp_line.specs.scp_turn.specs.Heard.{Nodes, Noted}
 use Rattle.scp_line.specs.scp_turn.specs.Network.{NetworkView}
-use Rattle.scp_script.specs.declared.command.Command.{Command}
+use Rattle.scp_line.specs.scp_script.specs.declared.command.Command.{Command}
 use Rattle.scp_line.specs.declared.watch.Steps.{Steps}
 use Rattle.scp_line.specs.Nodes.{HasPlayed}
 use Rattle.scp_line.specs.Play.{AreNew}

@@ -1,9 +1,9 @@
 -- The entry that counts for a node in a slot: the last of its ballot statements there that was taken as fresh (this project's profile).
 use Rattle.std.specs.Prelude.{ℕ, Bool, false, List, Option, Some, None, filter, fold}
-use Rattle.scp_types.specs.declared.names.NodeId.{NodeId}
-use Rattle.scp_vote.specs.declared.claim.StatementKind.TheVariants.{Balloting}
-use Rattle.scp_ledger.specs.declared.journal.Fate.{Fate}
-use Rattle.scp_ledger.specs.Journal.{Heard, fresh_heard, is_of}
+use Rattle.scp_line.specs.scp_types.specs.declared.names.NodeId.{NodeId}
+use Rattle.scp_line.specs.scp_vote.specs.declared.claim.StatementKind.TheVariants.{Balloting}
+use Rattle.scp_line.specs.scp_ledger.specs.declared.journal.Fate.{Fate}
+use Rattle.scp_line.specs.scp_ledger.specs.Journal.{Heard, fresh_heard, is_of}
 
 -- What an entry brought is a ballot statement of this slot and node.
 abbrev pub is_ballot_in : ℕ → NodeId → Option Heard → Bool

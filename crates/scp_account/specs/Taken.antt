@@ -1,7 +1,7 @@
 -- What a slot stage took, in order (this project's profile).
 use Rattle.std.specs.Prelude.{List}
 use Rattle.serde_json.specs.Data.{Data}
-use Rattle.scp_ledger.specs.declared.journal.Fate.{Fate}
+use Rattle.scp_line.specs.scp_ledger.specs.declared.journal.Fate.{Fate}
 use Rattle.scp_facts.specs.declared.happening.Happening.{Happening}
 use Rattle.scp_facts.specs.Taken.{in_order}
 use Rattle.scp_account.specs.Entries.{entry_json}

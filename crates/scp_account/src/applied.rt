@@ -7,9 +7,9 @@ ghost use Rattle.scp_line.specs.scp_report.specs.Report.{state_of};
 ghost use Rattle.scp_account.specs.Node.{applied_json, key_json};
 
 use crate::digits::digits_of;
-use scp_kv::KvState;
-use scp_ledger::{Decision, SharedDecision};
-use scp_types::Value as Bytes;
+use scp_line::below::kv::KvState;
+use scp_line::below::ledger::{Decision, SharedDecision};
+use scp_line::below::types::Value as Bytes;
 use serde_json::{Value, json};
 use std::alloc::{AllocError, Global};
 

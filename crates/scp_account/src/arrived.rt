@@ -7,8 +7,8 @@ ghost use Rattle.scp_account.specs.Arrived.{item_json, arrived_json, arrival_jso
 use crate::digits::{digits_of, id_value};
 use crate::links::word;
 use scp_line::LinkReport;
-use scp_types::NodeId;
-use scp_wire::LinkItem;
+use scp_line::below::types::NodeId;
+use scp_line::below::wire::LinkItem;
 use serde_json::{Value, json};
 use std::alloc::{AllocError, Global};
 

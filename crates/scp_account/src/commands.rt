@@ -6,10 +6,10 @@ ghost use Rattle.scp_account.specs.Pieces.{count, digits};
 ghost use Rattle.scp_account.specs.Commands.{fate_json, command_json};
 
 use crate::digits::digits_of;
-use scp_ledger::CommandFate;
-use scp_types::{Slot, Value as Bytes};
-use scp_wire::Command;
-use scp_words::word_of_fate;
+use scp_line::below::ledger::CommandFate;
+use scp_line::below::types::{Slot, Value as Bytes};
+use scp_line::below::wire::Command;
+use scp_line::below::words::word_of_fate;
 use serde_json::{Value, json};
 use std::alloc::{AllocError, Global};
 

@@ -2,7 +2,7 @@
 ghost use Rattle.std.specs.Prelude.{◌≡◌, ◌++◌, All, List, codes, IfOk, IsOkUnless, OnOk, ℕ, flat_map, map, option_map};
 ghost use Rattle.serde_json.specs.Data.{array, object, member, no_members, string};
 ghost use Rattle.serde_json.specs.View.{view, items_of};
-ghost use Rattle.scp_ledger.specs.declared.journal.Fate.{Fate};
+ghost use Rattle.scp_line.specs.scp_ledger.specs.declared.journal.Fate.{Fate};
 ghost use Rattle.scp_account.specs.Pieces.{count, id_json, set_json};
 ghost use Rattle.scp_account.specs.Decisions.{decision_json, ground, ground_of, origin_json};
 ghost use Rattle.scp_account.specs.Fits.{FitsEntry, FitsOrigin, FitsOwn, FitsSet};
@@ -10,10 +10,10 @@ ghost use Rattle.scp_account.specs.inside.Spoken.{AreSpoken, FitsIf, spoken as s
 
 use crate::digits::{digits_of, id_value, own_value, set_value};
 use crate::spoken::last_of;
-use scp_envelope::SharedEnvelope;
-use scp_ledger::{Decision, Fate, Origin, Quorum, SharedDecision};
-use scp_quorum::QuorumSet;
-use scp_types::{ConnId, Fault, NodeId};
+use scp_line::below::envelope::SharedEnvelope;
+use scp_line::below::ledger::{Decision, Fate, Origin, Quorum, SharedDecision};
+use scp_line::below::quorum::QuorumSet;
+use scp_line::below::types::{ConnId, Fault, NodeId};
 use serde_json::{Value, json};
 use std::alloc::{AllocError, Global};
 use std::collections::BTreeMap;

@@ -2,13 +2,13 @@
 ghost use Rattle.std.specs.Prelude.{◌≡◌, IfOk, IsOkUnless};
 ghost use Rattle.serde_json.specs.View.{view};
 ghost use Rattle.scp_account.specs.Pieces.{digits, id_json, set_json, message_json, own_json};
-ghost use Rattle.scp_wire.specs.Fitting.{IsFitting};
+ghost use Rattle.scp_line.specs.scp_wire.specs.Fitting.{IsFitting};
 ghost use Rattle.scp_account.specs.Fits.{FitsSet, FitsOwn};
 
-use scp_envelope::Envelope;
-use scp_quorum::QuorumSet;
-use scp_types::{Fault, NodeId};
-use scp_wire::Message;
+use scp_line::below::envelope::Envelope;
+use scp_line::below::quorum::QuorumSet;
+use scp_line::below::types::{Fault, NodeId};
+use scp_line::below::wire::Message;
 use serde_json::Value;
 use std::alloc::{AllocError, Global};
 
@@ -40,7 +40,7 @@ pub fn message_value(alloc: Global, message: &Message) -> Result<Value, Fault>
     ensures value { IfOk result (λ v. view v ≡ message_json message.now) }
     ensures only_memory { IsFitting message.now → IsOkUnless result Fault.NoMemory }
 {
-    let bytes = scp_wire::encode(alloc, message)?;
+    let bytes = scp_line::below::wire::encode(alloc, message)?;
     Ok(digits_of(alloc, bytes.as_slice())?)
 }
 
@@ -49,6 +49,6 @@ pub fn own_value(alloc: Global, own: &Envelope) -> Result<Value, Fault>
     ensures value { IfOk result (λ v. view v ≡ own_json own.now) }
     ensures only_memory { FitsOwn own.now → IsOkUnless result Fault.NoMemory }
 {
-    let bytes = scp_envelope::encode(alloc, own)?;
+    let bytes = scp_line::below::envelope::encode(alloc, own)?;
     Ok(digits_of(alloc, bytes.as_slice())?)
 }

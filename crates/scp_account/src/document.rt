@@ -10,7 +10,7 @@ ghost use Rattle.scp_account.specs.Fits.{FitsNode};
 use crate::node::{Mode, node_value};
 use scp_facts::{Kept, happenings_at};
 use scp_line::Report;
-use scp_types::Fault;
+use scp_line::below::types::Fault;
 use serde_json::{Value, json};
 use std::alloc::{AllocError, Global};
 

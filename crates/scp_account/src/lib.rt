@@ -11,6 +11,7 @@
 
 mod applied;
 mod arrived;
+pub mod below;
 mod commands;
 mod decisions;
 mod digits;

@@ -20,7 +20,7 @@ use crate::spoken::spoken_in;
 use crate::taken::{entry_values, taken_values};
 use scp_facts::{Happening, ticks_of};
 use scp_line::Report;
-use scp_types::Fault;
+use scp_line::below::types::Fault;
 use serde_json::{Value, json};
 use std::alloc::{AllocError, Global};
 

@@ -7,8 +7,8 @@ ghost use Rattle.scp_account.specs.Parked.{hash_json, number_json, parked_json, 
 
 use crate::digits::{digits_of, id_value, message_value};
 use scp_line::Parked;
-use scp_types::{ConnId, Fault, Hash, Seq};
-use scp_wire::Carried;
+use scp_line::below::types::{ConnId, Fault, Hash, Seq};
+use scp_line::below::wire::Carried;
 use serde_json::{Value, json};
 use std::alloc::{AllocError, Global};
 

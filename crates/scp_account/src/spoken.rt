@@ -1,13 +1,13 @@
 //! The ballot statements that were taken as fresh, sorted by slot.
 ghost use Rattle.std.specs.Prelude.{◌≡◌, ◌++◌, ◌∷◌, [], ℕ, filter, map, nat_eq, option_map, IfOk, OnOk, if◌then◌else◌};
-ghost use Rattle.scp_ledger.specs.Journal.{fresh_heard};
+ghost use Rattle.scp_line.specs.scp_ledger.specs.Journal.{fresh_heard};
 ghost use Rattle.scp_account.specs.Spoken.{last_of as last};
 ghost use Rattle.scp_account.specs.inside.Spoken.{ballot_in, is_in_slot, is_its, spoken, spoken_at};
 
-use scp_envelope::{Pledges, Statement};
-use scp_ledger::{Fate, Verdict};
-use scp_types::NodeId;
-use scp_wire::Message;
+use scp_line::below::envelope::{Pledges, Statement};
+use scp_line::below::ledger::{Fate, Verdict};
+use scp_line::below::types::NodeId;
+use scp_line::below::wire::Message;
 use std::alloc::{AllocError, Global};
 use std::collections::BTreeMap;
 

@@ -2,7 +2,7 @@
 ghost use Rattle.std.specs.Prelude.{◌≡◌, ◌++◌, ◌∷◌, List, drop, map, All, IfOk, OnOk, IsOkUnless};
 ghost use Rattle.serde_json.specs.Data.{array};
 ghost use Rattle.serde_json.specs.View.{view, items_of};
-ghost use Rattle.scp_ledger.specs.declared.journal.Fate.{Fate};
+ghost use Rattle.scp_line.specs.scp_ledger.specs.declared.journal.Fate.{Fate};
 ghost use Rattle.scp_facts.specs.declared.happening.Happening.{Happening};
 ghost use Rattle.scp_facts.specs.Taken.{in_order};
 ghost use Rattle.scp_account.specs.Commands.{command_json};
@@ -14,9 +14,9 @@ ghost use Rattle.scp_account.specs.inside.Happened.{happened};
 use crate::commands::command_value;
 use crate::entries::entry_value;
 use scp_facts::Happening;
-use scp_ledger::{CommandFate, Fate};
-use scp_types::Fault;
-use scp_wire::Command;
+use scp_line::below::ledger::{CommandFate, Fate};
+use scp_line::below::types::Fault;
+use scp_line::below::wire::Command;
 use serde_json::Value;
 use std::alloc::{AllocError, Global};
 

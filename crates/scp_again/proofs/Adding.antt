@@ -4,7 +4,7 @@ use Rattle.std.proofs.Math.Seq.{take-length}
 use Rattle.std.proofs.lemmas.List.{take_more}
 use Rattle.std.specs.Prelude.{flat_map}
 use Rattle.std.proofs.lemmas.Grind.{flat_map-append}
-use Rattle.scp_wire.specs.declared.message.Message.{Message}
+use Rattle.scp_core.specs.scp_wire.specs.declared.message.Message.{Message}
 
 -- what is added behind what was added
 pub added_on : (a b c ms ns : List Message) → b ≡ a ++ ms → c ≡ b ++ ns → c ≡ a ++ (ms ++ ns)

@@ -3,31 +3,31 @@ use Rattle.std.proofs.Common.{◌≡◌, ℕ, false, List, [], ◌∷◌, ◌++�
 use Rattle.std.specs.Prelude.{Option, Some, None, Contains, length, replicate, slice_get}
 use Rattle.std.specs.Option.{ForSome}
 use Rattle.std.proofs.lemmas.List.Elements.{All-nil, All-append, All-contains}
-use Rattle.scp_driver.specs.Driver.{Says}
-use Rattle.scp_envelope.specs.declared.statement.Statement.{Statement}
-use Rattle.scp_wire.specs.Boxed.{Boxed}
-use Rattle.scp_wire.specs.declared.message.Message.{Message}
-use Rattle.scp_wire.specs.Message.{message_value, SpellsMessage}
-use Rattle.scp_outbox.specs.Outbox.{OutboxView}
-use Rattle.scp_outbox.specs.Handing.{empty_outbox}
-use Rattle.scp_outbox.specs.Sending.{EmptyOwes, PutsKeepOwes, GivesKeepOwes}
-use Rattle.scp_outbox.specs.Sent.{statement_of, IsStep, AreNewer}
-use Rattle.scp_outbox.specs.Waiting.{Owes}
-use Rattle.scp_ledger.specs.declared.journal.Decision.{Decision}
-use Rattle.scp_ledger.specs.Seen.{LedgerView}
-use Rattle.scp_theorem.specs.Grounds.{Who}
-use Rattle.scp_theorem.proofs.Basics.{none_some}
-use Rattle.scp_theorem.proofs.Telling.{none_newer}
+use Rattle.scp_core.specs.scp_driver.specs.Driver.{Says}
+use Rattle.scp_core.specs.scp_envelope.specs.declared.statement.Statement.{Statement}
+use Rattle.scp_core.specs.scp_wire.specs.Boxed.{Boxed}
+use Rattle.scp_core.specs.scp_wire.specs.declared.message.Message.{Message}
+use Rattle.scp_core.specs.scp_wire.specs.Message.{message_value, SpellsMessage}
+use Rattle.scp_core.specs.scp_outbox.specs.Outbox.{OutboxView}
+use Rattle.scp_core.specs.scp_outbox.specs.Handing.{empty_outbox}
+use Rattle.scp_core.specs.scp_outbox.specs.Sending.{EmptyOwes, PutsKeepOwes, GivesKeepOwes}
+use Rattle.scp_core.specs.scp_outbox.specs.Sent.{statement_of, IsStep, AreNewer}
+use Rattle.scp_core.specs.scp_outbox.specs.Waiting.{Owes}
+use Rattle.scp_core.specs.scp_ledger.specs.declared.journal.Decision.{Decision}
+use Rattle.scp_core.specs.scp_ledger.specs.Seen.{LedgerView}
+use Rattle.scp_core.specs.scp_theorem.specs.Grounds.{Who}
+use Rattle.scp_core.specs.scp_theorem.proofs.Basics.{none_some}
+use Rattle.scp_core.specs.scp_theorem.proofs.Telling.{none_newer}
 use Rattle.scp_core.specs.declared.config.Config.{Config}
 use Rattle.scp_core.specs.declared.event.Reply.{Reply}
 use Rattle.scp_core.specs.declared.event.Reply.TheVariants.{Failed}
 use Rattle.scp_core.specs.History.{Exchange, Past, hears, past_of, nothing_heard}
 use Rattle.scp_core.specs.Node.{NodeView}
 use Rattle.scp_core.specs.Sent.{sent_by, sent_to, who_of}
-use Rattle.scp_core.specs.Theorem.{made, AreSteps, IsReply}
+use Rattle.scp_core.specs.Theorem.{begun, AreSteps, IsReply}
 use Rattle.scp_again.specs.Again.{again_of}
 use Rattle.scp_again.specs.Ascending.{IsNoOlder, Ascend}
-use Rattle.scp_again.specs.Laws.{AreEncoded, NeverGoesBack, NodesNeverGoBack}
+use Rattle.scp_again.specs.Laws.{AreEncoded, NeverGoesBack, NodesNeverGoBack, LateNodesNeverGoBack}
 use Rattle.scp_again.proofs.Lists.{all_split, pairs_append, pairs_split, all_with, zip_append}
 use Rattle.scp_again.proofs.Current.{IsWell, IsSaid, IsCurrent, IsLast, no_older, current_said}
 use Rattle.scp_again.proofs.Repeated.{again_current}
@@ -68,7 +68,7 @@ module _ {D : Type 0} (says : Says D) where
           subst (λ (ms : List Message). Stands last ms) (append_assoc sent one.0 rest.0) rest.2,
         )
 
--- ---- a node as it is made
+-- ---- a node as it begins
 
 replicated : (n : ℕ) (x : OutboxView) (l : ℕ) (y : OutboxView) → slice_get (replicate n x) l ≡ Some y → x ≡ y
 replicated zero x l y e = absurd cc
@@ -76,8 +76,8 @@ replicated (suc n) x zero y e = cc
 replicated (suc n) x (suc l) y e = replicated n x l y e
 
 module _ {D : Type 0} where
-  begins : EmptyOwes → (driver : D) (c : Config) (link : ℕ) → Holds (who_of c) (λ s. ⊥) [] (made driver c).ledger (slice_get (made driver c).outboxes link) []
-  begins empty driver c link = record {
+  begins : EmptyOwes → (driver : D) (c : Config) (first : ℕ) (base : List ℕ) (link : ℕ) → Holds (who_of c) (λ s. ⊥) [] (begun driver c first base).ledger (slice_get (begun driver c first base).outboxes link) []
+  begins empty driver c first base link = record {
     well = record {
       me_is = refl;
       set_is = refl;
@@ -88,11 +88,11 @@ module _ {D : Type 0} where
       one = λ d e there b slots. nothing_there d there;
     };
     handed = [];
-    said = All-nil (λ m. ForSome (statement_of m) (IsSaid (who_of c) (made driver c).ledger));
+    said = All-nil (λ m. ForSome (statement_of m) (IsSaid (who_of c) (begun driver c first base).ledger));
     were_handed = All-nil (Contains []);
     newer = none_newer;
     owes = λ o is. subst (λ (b : OutboxView). Owes [] [] b) (replicated (length c.peers) empty_outbox link o is) (empty empty_outbox refl refl);
-    last = λ o is. subst (λ (b : OutboxView). All (λ (held : Boxed). IsLast (made driver c).ledger held.value.statement) b.statements) (replicated (length c.peers) empty_outbox link o is) (All-nil (λ (held : Boxed). IsLast (made driver c).ledger held.value.statement));
+    last = λ o is. subst (λ (b : OutboxView). All (λ (held : Boxed). IsLast (begun driver c first base).ledger held.value.statement) b.statements) (replicated (length c.peers) empty_outbox link o is) (All-nil (λ (held : Boxed). IsLast (begun driver c first base).ledger held.value.statement));
     known = λ s p. absurd p;
     since = λ s p. absurd p;
     waits = λ s p. absurd p;
@@ -163,13 +163,13 @@ module _ {D : Type 0} (who : Who) where
       (All-append (λ m. All (Ordered m) second) (before ++ first) behind (All-append (λ m. All (Ordered m) second) before first from_before from_first) from_behind)
 
 module _ {D : Type 0} (says : Says D) where
-  pub never_back : EmptyOwes → PutsKeepOwes → GivesKeepOwes → NodesNeverGoBack says
-  never_back empty puts gives = λ driver c past rest moment v steps more runs_then runs link. whole driver c past rest moment v steps more runs_then runs link
+  pub late_never_back : EmptyOwes → PutsKeepOwes → GivesKeepOwes → LateNodesNeverGoBack says
+  late_never_back empty puts gives = λ first base driver c past rest moment v steps more runs_then runs link. whole driver c first base past rest moment v steps more runs_then runs link
     where
-      whole : (driver : D) (c : Config) (past rest : List Exchange) (moment v : NodeView D) → AreSteps says c nothing_heard (made driver c) past moment → AreSteps says c (past_of c past) moment rest v → moment.failed ≡ false → v.failed ≡ false → (link : ℕ) → NeverGoesBack link past rest moment v
-      whole driver c past rest moment v steps more runs_then runs link =
+      whole : (driver : D) (c : Config) (first : ℕ) (base : List ℕ) (past rest : List Exchange) (moment v : NodeView D) → AreSteps says c nothing_heard (begun driver c first base) past moment → AreSteps says c (past_of c past) moment rest v → moment.failed ≡ false → v.failed ≡ false → (link : ℕ) → NeverGoesBack link past rest moment v
+      whole driver c first base past rest moment v steps more runs_then runs link =
           let who = who_of c in
-          let one = along says puts gives c (λ s. ⊥) [] link past nothing_heard (made driver c) moment [] steps runs_then (begins empty driver c link) in
+          let one = along says puts gives c (λ s. ⊥) [] link past nothing_heard (begun driver c first base) moment [] steps runs_then (begins empty driver c first base link) in
           let from : Holds who (IsCurrent who moment.ledger) one.0 moment.ledger (slice_get moment.outboxes link) [] = holds_from who (λ s. ⊥) moment.ledger (slice_get moment.outboxes link) one.0 one.2 in
           let two = along says puts gives c (IsCurrent who moment.ledger) one.0 link rest (past_of c past) moment v [] more runs from in
           record {
@@ -180,3 +180,6 @@ module _ {D : Type 0} (says : Says D) where
             ascend = all_ascend who moment.ledger v.ledger (slice_get moment.outboxes link) (slice_get v.outboxes link) (λ s. ⊥) one.0 two.0 (again_of moment.ledger link) (again_of v.ledger link) one.2 two.2
                 (again_current who moment.ledger one.2.well link) (again_current who v.ledger two.2.well link);
           }
+
+  pub never_back : EmptyOwes → PutsKeepOwes → GivesKeepOwes → NodesNeverGoBack says
+  never_back empty puts gives = late_never_back empty puts gives 1 []

@@ -6,19 +6,19 @@ use Rattle.std.specs.Ordering.{nat_cmp}
 use Rattle.std.specs.Cmp.{unsigned_tied}
 use Rattle.std.proofs.lemmas.Bool.{eq-eqb}
 use Rattle.std.proofs.lemmas.List.Elements.{Contains-append_left, Contains-push, Contains-push_cases}
-use Rattle.scp_envelope.specs.declared.statement.Pledges.{Pledges}
-use Rattle.scp_envelope.specs.declared.statement.Pledges.TheVariants.{Prepare, Confirm, Externalize, Nominate}
-use Rattle.scp_envelope.specs.declared.statement.Statement.{Statement}
-use Rattle.scp_outbox.specs.Outbox.{is_nomination}
-use Rattle.scp_pending.specs.Queues.{hash_of}
-use Rattle.scp_slot.specs.declared.machine.SlotMachine.{SlotMachine}
-use Rattle.scp_slot.specs.Slot.{slot_view}
-use Rattle.scp_ledger.specs.declared.journal.Decision.{Decision}
-use Rattle.scp_ledger.specs.Decisions.{is_decided}
-use Rattle.scp_ledger.specs.Seen.{LedgerView, machine_at}
-use Rattle.scp_theorem.specs.Grounds.{Who}
-use Rattle.scp_theorem.proofs.Basics.{none_some, some_same, which, at_is}
-use Rattle.scp_theorem.proofs.Machines.{said, AreMine, IsBehind, decided_then}
+use Rattle.scp_core.specs.scp_envelope.specs.declared.statement.Pledges.{Pledges}
+use Rattle.scp_core.specs.scp_envelope.specs.declared.statement.Pledges.TheVariants.{Prepare, Confirm, Externalize, Nominate}
+use Rattle.scp_core.specs.scp_envelope.specs.declared.statement.Statement.{Statement}
+use Rattle.scp_core.specs.scp_outbox.specs.Outbox.{is_nomination}
+use Rattle.scp_core.specs.scp_pending.specs.Queues.{hash_of}
+use Rattle.scp_core.specs.scp_slot.specs.declared.machine.SlotMachine.{SlotMachine}
+use Rattle.scp_core.specs.scp_slot.specs.Slot.{slot_view}
+use Rattle.scp_core.specs.scp_ledger.specs.declared.journal.Decision.{Decision}
+use Rattle.scp_core.specs.scp_ledger.specs.Decisions.{is_decided}
+use Rattle.scp_core.specs.scp_ledger.specs.Seen.{LedgerView, machine_at}
+use Rattle.scp_core.specs.scp_theorem.specs.Grounds.{Who}
+use Rattle.scp_core.specs.scp_theorem.proofs.Basics.{none_some, some_same, which, at_is}
+use Rattle.scp_core.specs.scp_theorem.proofs.Machines.{said, AreMine, IsBehind, decided_then}
 use Rattle.scp_again.proofs.Lists.{there_decided, still_undecided}
 use Rattle.scp_again.proofs.Current.{true_false, IsOwnIf, IsOwnAt, HasDecision, HasKinds, IsWell, IsSaid, AtMachine, IsEnded, IsLast}
 

@@ -7,20 +7,20 @@ use Rattle.std.proofs.lemmas.List.Quantifiers.{position-Some}
 use Rattle.std.proofs.lemmas.List.{get_or-drop, length-drop, length_push, get_or_push, length-set, get_or-set_same, get_or_default}
 use Rattle.std.proofs.lemmas.Bool.{cases_eq, cases_lt}
 use Rattle.std.proofs.lemmas.Option.{get_or_from_slice_get, slice_get_within}
-use Rattle.scp_envelope.specs.Newer.{IsNewer}
-use Rattle.scp_envelope.specs.declared.statement.Statement.{Statement}
-use Rattle.scp_wire.specs.Boxed.{Boxed}
-use Rattle.scp_wire.specs.declared.message.Message.{Message}
-use Rattle.scp_wire.specs.declared.message.Message.TheVariants.{Envelope, GetSet, Set, NoSet, GetRecord, Record, Records}
-use Rattle.scp_outbox.specs.Outbox.{OutboxView, are_alike, AreOneEach, keep_last, GoesLast, Takes, Replaces, Puts, Gives, given_statements, given_messages, given_live, given_from, IfMessage}
-use Rattle.scp_outbox.specs.declared.mark.Mark.{Mark}
-use Rattle.scp_outbox.specs.declared.mark.Out.{Out}
-use Rattle.scp_outbox.specs.declared.mark.Out.TheVariants as out
-use Rattle.scp_outbox.specs.Handing.{PutsAll}
-use Rattle.scp_outbox.specs.Sent.{statement_of, IsStep}
-use Rattle.scp_outbox.specs.Waiting.{Owes}
-use Rattle.scp_outbox.specs.Sending.{PutsKeepOwes}
-use Rattle.scp_theorem.proofs.Basics.{which, none_some, some_same}
+use Rattle.scp_core.specs.scp_envelope.specs.Newer.{IsNewer}
+use Rattle.scp_core.specs.scp_envelope.specs.declared.statement.Statement.{Statement}
+use Rattle.scp_core.specs.scp_wire.specs.Boxed.{Boxed}
+use Rattle.scp_core.specs.scp_wire.specs.declared.message.Message.{Message}
+use Rattle.scp_core.specs.scp_wire.specs.declared.message.Message.TheVariants.{Envelope, GetSet, Set, NoSet, GetRecord, Record, Records}
+use Rattle.scp_core.specs.scp_outbox.specs.Outbox.{OutboxView, are_alike, AreOneEach, keep_last, GoesLast, Takes, Replaces, Puts, Gives, given_statements, given_messages, given_live, given_from, IfMessage}
+use Rattle.scp_core.specs.scp_outbox.specs.declared.mark.Mark.{Mark}
+use Rattle.scp_core.specs.scp_outbox.specs.declared.mark.Out.{Out}
+use Rattle.scp_core.specs.scp_outbox.specs.declared.mark.Out.TheVariants as out
+use Rattle.scp_core.specs.scp_outbox.specs.Handing.{PutsAll}
+use Rattle.scp_core.specs.scp_outbox.specs.Sent.{statement_of, IsStep}
+use Rattle.scp_core.specs.scp_outbox.specs.Waiting.{Owes}
+use Rattle.scp_core.specs.scp_outbox.specs.Sending.{PutsKeepOwes}
+use Rattle.scp_core.specs.scp_theorem.proofs.Basics.{which, none_some, some_same}
 use Rattle.scp_again.proofs.Current.{true_false, slots_are, kinds_are, alike}
 use Rattle.scp_again.proofs.Put.{IsApart}
 

@@ -3,27 +3,27 @@ use Rattle.std.proofs.Common.{◌≡◌, ℕ, Bool, true, false, List, refl, sym
 use Rattle.std.specs.Prelude.{Some, Contains, ◌&&◌}
 use Rattle.std.specs.Option.{ForSome}
 use Rattle.std.proofs.lemmas.Bool.{eqb-true, eq-eqb}
-use Rattle.scp_types.specs.declared.names.NodeId.{NodeId}
-use Rattle.scp_types.specs.declared.names.Slot.{Slot}
-use Rattle.scp_envelope.specs.Newer.{ArePledgesNewer, IsNewer}
-use Rattle.scp_envelope.specs.declared.statement.Pledges.{Pledges}
-use Rattle.scp_envelope.specs.declared.statement.Pledges.TheVariants.{Prepare, Confirm, Externalize, Nominate}
-use Rattle.scp_envelope.specs.declared.statement.Statement.{Statement}
-use Rattle.scp_vote.specs.Licence.{IsExternalize}
-use Rattle.scp_outbox.specs.Outbox.{is_nomination, same_bool, are_alike}
-use Rattle.scp_nominate.specs.Nomination as nominate
-use Rattle.scp_pending.specs.Queues.{hash_of}
-use Rattle.scp_slot.specs.declared.machine.SlotMachine.{SlotMachine}
-use Rattle.scp_slot.specs.Slot.{SlotView, slot_view}
-use Rattle.scp_ledger.specs.declared.journal.Decision.{Decision}
-use Rattle.scp_ledger.specs.declared.journal.Origin.{Origin}
-use Rattle.scp_ledger.specs.declared.journal.Origin.TheVariants.{Machine, Named}
-use Rattle.scp_ledger.specs.Decisions.{is_decided}
-use Rattle.scp_ledger.specs.Seen.{LedgerView, machine_at}
-use Rattle.scp_theorem.specs.Grounds.{Who}
-use Rattle.scp_theorem.proofs.Basics.{true_isnt, and_first, and_second, some_same}
-use Rattle.scp_theorem.proofs.Emitted.{statement_is}
-use Rattle.scp_theorem.proofs.Machines.{said, AreMine, IsBehind}
+use Rattle.scp_core.specs.scp_types.specs.declared.names.NodeId.{NodeId}
+use Rattle.scp_core.specs.scp_types.specs.declared.names.Slot.{Slot}
+use Rattle.scp_core.specs.scp_envelope.specs.Newer.{ArePledgesNewer, IsNewer}
+use Rattle.scp_core.specs.scp_envelope.specs.declared.statement.Pledges.{Pledges}
+use Rattle.scp_core.specs.scp_envelope.specs.declared.statement.Pledges.TheVariants.{Prepare, Confirm, Externalize, Nominate}
+use Rattle.scp_core.specs.scp_envelope.specs.declared.statement.Statement.{Statement}
+use Rattle.scp_core.specs.scp_vote.specs.Licence.{IsExternalize}
+use Rattle.scp_core.specs.scp_outbox.specs.Outbox.{is_nomination, same_bool, are_alike}
+use Rattle.scp_core.specs.scp_nominate.specs.Nomination as nominate
+use Rattle.scp_core.specs.scp_pending.specs.Queues.{hash_of}
+use Rattle.scp_core.specs.scp_slot.specs.declared.machine.SlotMachine.{SlotMachine}
+use Rattle.scp_core.specs.scp_slot.specs.Slot.{SlotView, slot_view}
+use Rattle.scp_core.specs.scp_ledger.specs.declared.journal.Decision.{Decision}
+use Rattle.scp_core.specs.scp_ledger.specs.declared.journal.Origin.{Origin}
+use Rattle.scp_core.specs.scp_ledger.specs.declared.journal.Origin.TheVariants.{Machine, Named}
+use Rattle.scp_core.specs.scp_ledger.specs.Decisions.{is_decided}
+use Rattle.scp_core.specs.scp_ledger.specs.Seen.{LedgerView, machine_at}
+use Rattle.scp_core.specs.scp_theorem.specs.Grounds.{Who}
+use Rattle.scp_core.specs.scp_theorem.proofs.Basics.{true_isnt, and_first, and_second, some_same}
+use Rattle.scp_core.specs.scp_theorem.proofs.Emitted.{statement_is}
+use Rattle.scp_core.specs.scp_theorem.proofs.Machines.{said, AreMine, IsBehind}
 use Rattle.scp_again.proofs.Lists.{there_decided}
 
 -- ---- statements of one slot and kind

@@ -2,33 +2,33 @@
 use Rattle.std.proofs.Common.{◌≡◌, ◌≢◌, List, ℕ, sym, ap, subst, inl, inr}
 use Rattle.std.specs.Prelude.{Option, Some, None, IsSomeAnd}
 use Rattle.std.specs.Option.{ForSome}
-use Rattle.scp_types.specs.declared.names.Hash.{Hash}
-use Rattle.scp_quorum.specs.SharedSet.{SharedSet}
-use Rattle.scp_envelope.specs.Newer.{ArePledgesNewer}
-use Rattle.scp_envelope.specs.declared.statement.Envelope.{Envelope as Enveloped}
-use Rattle.scp_envelope.specs.declared.statement.Pledges.{Pledges}
-use Rattle.scp_envelope.specs.declared.statement.Pledges.TheVariants.{Prepare, Confirm, Externalize, Nominate}
-use Rattle.scp_driver.specs.declared.driver.Level.{Level}
-use Rattle.scp_vote.specs.declared.claim.StatementKind.{StatementKind}
-use Rattle.scp_vote.specs.declared.claim.StatementKind.TheVariants.{Nomination as Nominating, Balloting}
-use Rattle.scp_vote.specs.Board.{Seen}
-use Rattle.scp_vote.specs.Licence.{IsExternalize}
-use Rattle.scp_ballot_rules.specs.declared.state.State.{State}
-use Rattle.scp_ballot_rules.specs.declared.state.Phase.{Phase}
-use Rattle.scp_ballot_rules.specs.declared.state.Phase.TheVariants as phase
-use Rattle.scp_ballot_rules.specs.Own.{own_of, own_in, StandsFor}
-use Rattle.scp_ballot.specs.declared.balloted.Balloted.{Balloted}
-use Rattle.scp_ballot.specs.declared.balloted.Certified.{Certified}
-use Rattle.scp_ballot.specs.Balloting as ballot
-use Rattle.scp_ballot.specs.Balloting.{Ballots, own}
-use Rattle.scp_ballot.specs.Outcome.{IsToEmit, ComesOut}
-use Rattle.scp_slot.specs.declared.output.SlotInput.{SlotInput}
-use Rattle.scp_slot.specs.declared.output.SlotOutput.{SlotOutput}
-use Rattle.scp_slot.specs.declared.output.Verdict.{Verdict}
-use Rattle.scp_slot.specs.Slot.{SlotView}
-use Rattle.scp_slot.specs.Takes as slot
-use Rattle.scp_theorem.proofs.Basics.{some_there, none_some}
-use Rattle.scp_theorem.proofs.Emitted.{whatever_input}
+use Rattle.scp_core.specs.scp_types.specs.declared.names.Hash.{Hash}
+use Rattle.scp_core.specs.scp_quorum.specs.SharedSet.{SharedSet}
+use Rattle.scp_core.specs.scp_envelope.specs.Newer.{ArePledgesNewer}
+use Rattle.scp_core.specs.scp_envelope.specs.declared.statement.Envelope.{Envelope as Enveloped}
+use Rattle.scp_core.specs.scp_envelope.specs.declared.statement.Pledges.{Pledges}
+use Rattle.scp_core.specs.scp_envelope.specs.declared.statement.Pledges.TheVariants.{Prepare, Confirm, Externalize, Nominate}
+use Rattle.scp_core.specs.scp_driver.specs.declared.driver.Level.{Level}
+use Rattle.scp_core.specs.scp_vote.specs.declared.claim.StatementKind.{StatementKind}
+use Rattle.scp_core.specs.scp_vote.specs.declared.claim.StatementKind.TheVariants.{Nomination as Nominating, Balloting}
+use Rattle.scp_core.specs.scp_vote.specs.Board.{Seen}
+use Rattle.scp_core.specs.scp_vote.specs.Licence.{IsExternalize}
+use Rattle.scp_core.specs.scp_ballot_rules.specs.declared.state.State.{State}
+use Rattle.scp_core.specs.scp_ballot_rules.specs.declared.state.Phase.{Phase}
+use Rattle.scp_core.specs.scp_ballot_rules.specs.declared.state.Phase.TheVariants as phase
+use Rattle.scp_core.specs.scp_ballot_rules.specs.Own.{own_of, own_in, StandsFor}
+use Rattle.scp_core.specs.scp_ballot.specs.declared.balloted.Balloted.{Balloted}
+use Rattle.scp_core.specs.scp_ballot.specs.declared.balloted.Certified.{Certified}
+use Rattle.scp_core.specs.scp_ballot.specs.Balloting as ballot
+use Rattle.scp_core.specs.scp_ballot.specs.Balloting.{Ballots, own}
+use Rattle.scp_core.specs.scp_ballot.specs.Outcome.{IsToEmit, ComesOut}
+use Rattle.scp_core.specs.scp_slot.specs.declared.output.SlotInput.{SlotInput}
+use Rattle.scp_core.specs.scp_slot.specs.declared.output.SlotOutput.{SlotOutput}
+use Rattle.scp_core.specs.scp_slot.specs.declared.output.Verdict.{Verdict}
+use Rattle.scp_core.specs.scp_slot.specs.Slot.{SlotView}
+use Rattle.scp_core.specs.scp_slot.specs.Takes as slot
+use Rattle.scp_core.specs.scp_theorem.proofs.Basics.{some_there, none_some}
+use Rattle.scp_core.specs.scp_theorem.proofs.Emitted.{whatever_input}
 use Rattle.scp_again.proofs.Current.{IsOpenBallot}
 
 -- the EXTERNALIZE that is emitted

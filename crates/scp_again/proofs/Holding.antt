@@ -3,19 +3,19 @@ use Rattle.std.proofs.Common.{◌≡◌, List, [], ◌∷◌, ◌++◌, refl, sy
 use Rattle.std.specs.Prelude.{Option, Some, None, Contains}
 use Rattle.std.specs.Option.{ForSome}
 use Rattle.std.proofs.lemmas.List.Elements.{All-nil, All-append, All-push, All-contains, Contains-append_left}
-use Rattle.scp_envelope.specs.declared.statement.Statement.{Statement}
-use Rattle.scp_wire.specs.Boxed.{Boxed}
-use Rattle.scp_wire.specs.declared.message.Message.{Message}
-use Rattle.scp_wire.specs.declared.message.Message.TheVariants.{Envelope}
-use Rattle.scp_outbox.specs.Outbox.{OutboxView, Gives}
-use Rattle.scp_outbox.specs.declared.mark.Out.TheVariants as out
-use Rattle.scp_outbox.specs.Handing.{PutsAll}
-use Rattle.scp_outbox.specs.Sent.{statement_of, IsStep, AreNewer}
-use Rattle.scp_outbox.specs.Waiting.{Owes}
-use Rattle.scp_outbox.specs.Sending.{PutsKeepOwes, GivesKeepOwes}
-use Rattle.scp_ledger.specs.Seen.{LedgerView}
-use Rattle.scp_theorem.specs.Grounds.{Who}
-use Rattle.scp_theorem.proofs.Basics.{some_same}
+use Rattle.scp_core.specs.scp_envelope.specs.declared.statement.Statement.{Statement}
+use Rattle.scp_core.specs.scp_wire.specs.Boxed.{Boxed}
+use Rattle.scp_core.specs.scp_wire.specs.declared.message.Message.{Message}
+use Rattle.scp_core.specs.scp_wire.specs.declared.message.Message.TheVariants.{Envelope}
+use Rattle.scp_core.specs.scp_outbox.specs.Outbox.{OutboxView, Gives}
+use Rattle.scp_core.specs.scp_outbox.specs.declared.mark.Out.TheVariants as out
+use Rattle.scp_core.specs.scp_outbox.specs.Handing.{PutsAll}
+use Rattle.scp_core.specs.scp_outbox.specs.Sent.{statement_of, IsStep, AreNewer}
+use Rattle.scp_core.specs.scp_outbox.specs.Waiting.{Owes}
+use Rattle.scp_core.specs.scp_outbox.specs.Sending.{PutsKeepOwes, GivesKeepOwes}
+use Rattle.scp_core.specs.scp_ledger.specs.Seen.{LedgerView}
+use Rattle.scp_core.specs.scp_theorem.specs.Grounds.{Who}
+use Rattle.scp_core.specs.scp_theorem.proofs.Basics.{some_same}
 use Rattle.scp_again.specs.Ascending.{IsNoOlder}
 use Rattle.scp_again.proofs.Current.{IsWell, IsSaid, IsCurrent, IsLast, current_said, last_is_current}
 use Rattle.scp_again.proofs.Put.{ArePut, IsFresh}

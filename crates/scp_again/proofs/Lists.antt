@@ -5,9 +5,9 @@ use Rattle.std.specs.List.{AllZip}
 use Rattle.std.proofs.lemmas.Bool.{eq-eqb}
 use Rattle.std.proofs.lemmas.List.Elements.{All-nil, All-cons, All-tail, All-append, All-drop, All-contains_itself}
 use Rattle.std.proofs.lemmas.List.Kept.{AllPairs-cons}
-use Rattle.scp_ledger.specs.declared.journal.Decision.{Decision}
-use Rattle.scp_ledger.specs.Decisions.{is_at, is_decided}
-use Rattle.scp_theorem.proofs.Basics.{true_isnt}
+use Rattle.scp_core.specs.scp_ledger.specs.declared.journal.Decision.{Decision}
+use Rattle.scp_core.specs.scp_ledger.specs.Decisions.{is_at, is_decided}
+use Rattle.scp_core.specs.scp_theorem.proofs.Basics.{true_isnt}
 
 -- ---- pairs
 

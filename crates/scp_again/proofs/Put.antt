@@ -4,19 +4,19 @@ use Rattle.std.specs.Prelude.{Option, Some, None, AllPairs, option_to_list}
 use Rattle.std.specs.Option.{ForSome}
 use Rattle.std.proofs.lemmas.List.Elements.{All-nil, All-cons, All-head, All-tail}
 use Rattle.std.proofs.lemmas.List.Kept.{AllPairs-cons}
-use Rattle.scp_envelope.specs.Newer.{IsNewer}
-use Rattle.scp_envelope.specs.declared.statement.Envelope.{Envelope as Enveloped}
-use Rattle.scp_envelope.specs.declared.statement.Statement.{Statement}
-use Rattle.scp_wire.specs.declared.message.Message.{Message}
-use Rattle.scp_outbox.specs.Outbox.{is_nomination, are_alike}
-use Rattle.scp_outbox.specs.Sent.{statement_of}
-use Rattle.scp_slot.specs.declared.output.Emitted.{Emitted}
-use Rattle.scp_ledger.specs.Seen.{LedgerView}
-use Rattle.scp_ledger.specs.Takes.{to_all, to_peers}
-use Rattle.scp_theorem.specs.Grounds.{Who}
-use Rattle.scp_theorem.specs.Handed.{handed_by}
-use Rattle.scp_theorem.proofs.Basics.{none_some, some_same, which}
-use Rattle.scp_theorem.proofs.Telling.{told}
+use Rattle.scp_core.specs.scp_envelope.specs.Newer.{IsNewer}
+use Rattle.scp_core.specs.scp_envelope.specs.declared.statement.Envelope.{Envelope as Enveloped}
+use Rattle.scp_core.specs.scp_envelope.specs.declared.statement.Statement.{Statement}
+use Rattle.scp_core.specs.scp_wire.specs.declared.message.Message.{Message}
+use Rattle.scp_core.specs.scp_outbox.specs.Outbox.{is_nomination, are_alike}
+use Rattle.scp_core.specs.scp_outbox.specs.Sent.{statement_of}
+use Rattle.scp_core.specs.scp_slot.specs.declared.output.Emitted.{Emitted}
+use Rattle.scp_core.specs.scp_ledger.specs.Seen.{LedgerView}
+use Rattle.scp_core.specs.scp_ledger.specs.Takes.{to_all, to_peers}
+use Rattle.scp_core.specs.scp_theorem.specs.Grounds.{Who}
+use Rattle.scp_core.specs.scp_theorem.specs.Handed.{handed_by}
+use Rattle.scp_core.specs.scp_theorem.proofs.Basics.{none_some, some_same, which}
+use Rattle.scp_core.specs.scp_theorem.proofs.Telling.{told}
 use Rattle.scp_again.proofs.Lists.{pairs_none, all_one}
 use Rattle.scp_again.proofs.Current.{true_false, kinds_are, IsSaid, IsLast}
 

@@ -3,23 +3,23 @@ use Rattle.std.proofs.Common.{◌≡◌, ℕ, ◌+◌, ◌-◌, ◌^◌, Bool, t
 use Rattle.std.specs.Prelude.{Option, Some, None, Contains, drop, nat_lt, if◌then◌else◌}
 use Rattle.std.specs.Option.{ForSome}
 use Rattle.std.proofs.lemmas.List.Elements.{All-nil, All-append}
-use Rattle.scp_types.specs.declared.limits.TheConstants.{WINDOW}
-use Rattle.scp_envelope.specs.declared.statement.Pledges.{Pledges}
-use Rattle.scp_envelope.specs.declared.statement.Statement.{Statement}
-use Rattle.scp_wire.specs.declared.message.Message.{Message}
-use Rattle.scp_wire.specs.declared.message.Message.TheVariants.{GetRecord}
-use Rattle.scp_outbox.specs.Outbox.{is_nomination}
-use Rattle.scp_outbox.specs.Sent.{statement_of}
-use Rattle.scp_nominate.specs.Nomination as nominate
-use Rattle.scp_slot.specs.declared.machine.SlotMachine.{SlotMachine}
-use Rattle.scp_slot.specs.Slot.{slot_view}
-use Rattle.scp_ledger.specs.declared.journal.Decision.{Decision}
-use Rattle.scp_ledger.specs.declared.journal.Origin.{Origin}
-use Rattle.scp_ledger.specs.declared.journal.Origin.TheVariants.{Machine, Named}
-use Rattle.scp_ledger.specs.Seen.{LedgerView, machine_at, is_asked}
-use Rattle.scp_theorem.specs.Grounds.{Who}
-use Rattle.scp_theorem.proofs.Basics.{none_some, some_same}
-use Rattle.scp_theorem.proofs.Machines.{said}
+use Rattle.scp_core.specs.scp_types.specs.declared.limits.TheConstants.{WINDOW}
+use Rattle.scp_core.specs.scp_envelope.specs.declared.statement.Pledges.{Pledges}
+use Rattle.scp_core.specs.scp_envelope.specs.declared.statement.Statement.{Statement}
+use Rattle.scp_core.specs.scp_wire.specs.declared.message.Message.{Message}
+use Rattle.scp_core.specs.scp_wire.specs.declared.message.Message.TheVariants.{GetRecord}
+use Rattle.scp_core.specs.scp_outbox.specs.Outbox.{is_nomination}
+use Rattle.scp_core.specs.scp_outbox.specs.Sent.{statement_of}
+use Rattle.scp_core.specs.scp_nominate.specs.Nomination as nominate
+use Rattle.scp_core.specs.scp_slot.specs.declared.machine.SlotMachine.{SlotMachine}
+use Rattle.scp_core.specs.scp_slot.specs.Slot.{slot_view}
+use Rattle.scp_core.specs.scp_ledger.specs.declared.journal.Decision.{Decision}
+use Rattle.scp_core.specs.scp_ledger.specs.declared.journal.Origin.{Origin}
+use Rattle.scp_core.specs.scp_ledger.specs.declared.journal.Origin.TheVariants.{Machine, Named}
+use Rattle.scp_core.specs.scp_ledger.specs.Seen.{LedgerView, machine_at, is_asked}
+use Rattle.scp_core.specs.scp_theorem.specs.Grounds.{Who}
+use Rattle.scp_core.specs.scp_theorem.proofs.Basics.{none_some, some_same}
+use Rattle.scp_core.specs.scp_theorem.proofs.Machines.{said}
 use Rattle.scp_again.specs.Again.{enveloped, own_of, decided_again, own_message, own_messages, emitted_by, asked_for, again_at, slots_again, again_of}
 use Rattle.scp_again.proofs.Lists.{all_flat, all_one, dropped_is_there}
 use Rattle.scp_again.proofs.Current.{IsOwnOf, IsOwnAt, HasKinds, IsWell, IsCurrent, open_is_ballot}

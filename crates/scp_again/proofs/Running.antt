@@ -3,37 +3,37 @@ use Rattle.std.proofs.Common.{◌≡◌, ℕ, Bool, true, false, cond, List, ref
 use Rattle.std.specs.Prelude.{Option, Some, None, is_some}
 use Rattle.std.specs.Option.{ForSome}
 use Rattle.std.specs.BTreeSet as tree_set
-use Rattle.scp_types.specs.declared.names.Hash.{Hash}
-use Rattle.scp_types.specs.declared.names.NodeId.{NodeId}
-use Rattle.scp_types.specs.declared.names.Slot.{Slot}
-use Rattle.scp_quorum.specs.QuorumTree.{QuorumTree}
-use Rattle.scp_driver.specs.declared.driver.Level.{Level}
-use Rattle.scp_envelope.specs.declared.statement.Envelope.{Envelope as Enveloped}
-use Rattle.scp_envelope.specs.declared.statement.Pledges.{Pledges}
-use Rattle.scp_envelope.specs.declared.statement.Pledges.TheVariants.{Prepare, Confirm, Externalize, Nominate}
-use Rattle.scp_envelope.specs.declared.statement.Statement.{Statement}
-use Rattle.scp_vote.specs.Licence.{IsExternalize}
-use Rattle.scp_outbox.specs.Outbox.{is_nomination, are_alike}
-use Rattle.scp_nominate.specs.Nomination as nominate
-use Rattle.scp_ballot.specs.declared.balloted.Certified.{Certified}
-use Rattle.scp_ballot.specs.Balloting as ballot
-use Rattle.scp_pending.specs.Queues.{hash_of}
-use Rattle.scp_slot.specs.declared.machine.SlotMachine.{SlotMachine}
-use Rattle.scp_slot.specs.declared.output.SlotInput.{SlotInput}
-use Rattle.scp_slot.specs.Slot.{SlotView, slot_view, driver_of, Begins}
-use Rattle.scp_ledger.specs.declared.journal.Decision.{Decision}
-use Rattle.scp_ledger.specs.declared.journal.Fate.{Fate}
-use Rattle.scp_ledger.specs.declared.journal.Origin.{Origin}
-use Rattle.scp_ledger.specs.declared.journal.Origin.TheVariants.{Machine, Named}
-use Rattle.scp_ledger.specs.declared.took.Outgoing.{Outgoing}
-use Rattle.scp_ledger.specs.declared.took.Took.{Took}
-use Rattle.scp_ledger.specs.Seen.{LedgerView, machine_at}
-use Rattle.scp_ledger.specs.Takes.{IsMachineFor, decision_of, RunsAt}
-use Rattle.scp_theorem.specs.Grounds.{Who, IsDecided, IsOwnOf as IsEnvelopeOf}
-use Rattle.scp_theorem.specs.Handed.{handed_by}
-use Rattle.scp_theorem.proofs.Basics.{none_some, some_same, there_some}
-use Rattle.scp_theorem.proofs.Emitted.{IsTold, IsMine, Says, says}
-use Rattle.scp_theorem.proofs.Machines.{said, MayTell, Ran, ran, begins_mine, begins_open, machine_was}
+use Rattle.scp_core.specs.scp_types.specs.declared.names.Hash.{Hash}
+use Rattle.scp_core.specs.scp_types.specs.declared.names.NodeId.{NodeId}
+use Rattle.scp_core.specs.scp_types.specs.declared.names.Slot.{Slot}
+use Rattle.scp_core.specs.scp_quorum.specs.QuorumTree.{QuorumTree}
+use Rattle.scp_core.specs.scp_driver.specs.declared.driver.Level.{Level}
+use Rattle.scp_core.specs.scp_envelope.specs.declared.statement.Envelope.{Envelope as Enveloped}
+use Rattle.scp_core.specs.scp_envelope.specs.declared.statement.Pledges.{Pledges}
+use Rattle.scp_core.specs.scp_envelope.specs.declared.statement.Pledges.TheVariants.{Prepare, Confirm, Externalize, Nominate}
+use Rattle.scp_core.specs.scp_envelope.specs.declared.statement.Statement.{Statement}
+use Rattle.scp_core.specs.scp_vote.specs.Licence.{IsExternalize}
+use Rattle.scp_core.specs.scp_outbox.specs.Outbox.{is_nomination, are_alike}
+use Rattle.scp_core.specs.scp_nominate.specs.Nomination as nominate
+use Rattle.scp_core.specs.scp_ballot.specs.declared.balloted.Certified.{Certified}
+use Rattle.scp_core.specs.scp_ballot.specs.Balloting as ballot
+use Rattle.scp_core.specs.scp_pending.specs.Queues.{hash_of}
+use Rattle.scp_core.specs.scp_slot.specs.declared.machine.SlotMachine.{SlotMachine}
+use Rattle.scp_core.specs.scp_slot.specs.declared.output.SlotInput.{SlotInput}
+use Rattle.scp_core.specs.scp_slot.specs.Slot.{SlotView, slot_view, driver_of, Begins}
+use Rattle.scp_core.specs.scp_ledger.specs.declared.journal.Decision.{Decision}
+use Rattle.scp_core.specs.scp_ledger.specs.declared.journal.Fate.{Fate}
+use Rattle.scp_core.specs.scp_ledger.specs.declared.journal.Origin.{Origin}
+use Rattle.scp_core.specs.scp_ledger.specs.declared.journal.Origin.TheVariants.{Machine, Named}
+use Rattle.scp_core.specs.scp_ledger.specs.declared.took.Outgoing.{Outgoing}
+use Rattle.scp_core.specs.scp_ledger.specs.declared.took.Took.{Took}
+use Rattle.scp_core.specs.scp_ledger.specs.Seen.{LedgerView, machine_at}
+use Rattle.scp_core.specs.scp_ledger.specs.Takes.{IsMachineFor, decision_of, RunsAt}
+use Rattle.scp_core.specs.scp_theorem.specs.Grounds.{Who, IsDecided, IsOwnOf as IsEnvelopeOf}
+use Rattle.scp_core.specs.scp_theorem.specs.Handed.{handed_by}
+use Rattle.scp_core.specs.scp_theorem.proofs.Basics.{none_some, some_same, there_some}
+use Rattle.scp_core.specs.scp_theorem.proofs.Emitted.{IsTold, IsMine, Says, says}
+use Rattle.scp_core.specs.scp_theorem.proofs.Machines.{said, MayTell, Ran, ran, begins_mine, begins_open, machine_was}
 use Rattle.scp_again.proofs.Lists.{any_is_there}
 use Rattle.scp_again.proofs.Current.{true_false, alike, IsOwnOf, IsOwnIf, IsOwnAt, HasDecision, IsOpenBallot, HasKinds, IsWell, AtMachine, IsLast}
 use Rattle.scp_again.proofs.Ending.{ends}

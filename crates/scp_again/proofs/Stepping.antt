@@ -3,35 +3,35 @@ use Rattle.std.proofs.Common.{◌≡◌, ◌≢◌, ℕ, ◌<◌, Bool, true, fa
 use Rattle.std.specs.Prelude.{Option, Some, None, option_map, slice_get, slice_set, if◌then◌else◌, ◌&&◌, not}
 use Rattle.std.proofs.lemmas.Bool.{eqb-true, eqb-false}
 use Rattle.std.proofs.lemmas.Option.{slice_get_within}
-use Rattle.scp_types.specs.declared.names.ConnId.{ConnId}
-use Rattle.scp_types.specs.declared.names.Hash.{Hash}
-use Rattle.scp_types.specs.declared.names.Slot.{Slot}
-use Rattle.scp_driver.specs.Driver.{Says}
-use Rattle.scp_quorum.specs.QuorumTree.{QuorumTree}
-use Rattle.scp_envelope.specs.declared.statement.Statement.{Statement}
-use Rattle.scp_wire.specs.declared.link.Inbound.{Inbound}
-use Rattle.scp_wire.specs.declared.link.Inbound.TheVariants as inbound
-use Rattle.scp_wire.specs.declared.message.Message.{Message}
-use Rattle.scp_wire.specs.declared.message.Message.TheVariants as message
-use Rattle.scp_wire.specs.declared.side.SideMessage.{SideMessage}
-use Rattle.scp_wire.specs.declared.side.SideMessage.TheVariants as side
-use Rattle.scp_outbox.specs.Outbox.{OutboxView}
-use Rattle.scp_outbox.specs.Handing.{PutsAll, GivesThere}
-use Rattle.scp_outbox.specs.Sending.{PutsKeepOwes, GivesKeepOwes}
-use Rattle.scp_outbox.specs.Sent.{statement_of}
-use Rattle.scp_fetch.specs.Store.{lookup}
-use Rattle.scp_fetch.specs.Wants.{is_asked}
-use Rattle.scp_pending.specs.Queues.{is_open, waited_by}
-use Rattle.scp_pending.specs.Rules.{Settled, is_full, link_number, entering, reply as reply_to, replies, asks, asks_named, answer}
-use Rattle.scp_ledger.specs.declared.took.Onward.{Onward}
-use Rattle.scp_ledger.specs.declared.took.Onward.TheVariants.{Decided, Asked}
-use Rattle.scp_ledger.specs.declared.took.Outgoing.{Outgoing}
-use Rattle.scp_apply.specs.Applied.{value_of}
-use Rattle.scp_apply.specs.Applier.{ApplierView, Takes}
-use Rattle.scp_theorem.specs.Grounds.{Who}
-use Rattle.scp_theorem.specs.Handed.{messages_for, handed_by, out_of}
-use Rattle.scp_theorem.proofs.Basics.{set_else, set_there, some_same, there_is, true_isnt}
-use Rattle.scp_theorem.proofs.Fit.{AllOut, all_none, all_for}
+use Rattle.scp_core.specs.scp_types.specs.declared.names.ConnId.{ConnId}
+use Rattle.scp_core.specs.scp_types.specs.declared.names.Hash.{Hash}
+use Rattle.scp_core.specs.scp_types.specs.declared.names.Slot.{Slot}
+use Rattle.scp_core.specs.scp_driver.specs.Driver.{Says}
+use Rattle.scp_core.specs.scp_quorum.specs.QuorumTree.{QuorumTree}
+use Rattle.scp_core.specs.scp_envelope.specs.declared.statement.Statement.{Statement}
+use Rattle.scp_core.specs.scp_wire.specs.declared.link.Inbound.{Inbound}
+use Rattle.scp_core.specs.scp_wire.specs.declared.link.Inbound.TheVariants as inbound
+use Rattle.scp_core.specs.scp_wire.specs.declared.message.Message.{Message}
+use Rattle.scp_core.specs.scp_wire.specs.declared.message.Message.TheVariants as message
+use Rattle.scp_core.specs.scp_wire.specs.declared.side.SideMessage.{SideMessage}
+use Rattle.scp_core.specs.scp_wire.specs.declared.side.SideMessage.TheVariants as side
+use Rattle.scp_core.specs.scp_outbox.specs.Outbox.{OutboxView}
+use Rattle.scp_core.specs.scp_outbox.specs.Handing.{PutsAll, GivesThere}
+use Rattle.scp_core.specs.scp_outbox.specs.Sending.{PutsKeepOwes, GivesKeepOwes}
+use Rattle.scp_core.specs.scp_outbox.specs.Sent.{statement_of}
+use Rattle.scp_core.specs.scp_fetch.specs.Store.{lookup}
+use Rattle.scp_core.specs.scp_fetch.specs.Wants.{is_asked}
+use Rattle.scp_core.specs.scp_pending.specs.Queues.{is_open, waited_by}
+use Rattle.scp_core.specs.scp_pending.specs.Rules.{Settled, is_full, link_number, entering, reply as reply_to, replies, asks, asks_named, answer}
+use Rattle.scp_core.specs.scp_ledger.specs.declared.took.Onward.{Onward}
+use Rattle.scp_core.specs.scp_ledger.specs.declared.took.Onward.TheVariants.{Decided, Asked}
+use Rattle.scp_core.specs.scp_ledger.specs.declared.took.Outgoing.{Outgoing}
+use Rattle.scp_core.specs.scp_apply.specs.Applied.{value_of}
+use Rattle.scp_core.specs.scp_apply.specs.Applier.{ApplierView, Takes}
+use Rattle.scp_core.specs.scp_theorem.specs.Grounds.{Who}
+use Rattle.scp_core.specs.scp_theorem.specs.Handed.{messages_for, handed_by, out_of}
+use Rattle.scp_core.specs.scp_theorem.proofs.Basics.{set_else, set_there, some_same, there_is, true_isnt}
+use Rattle.scp_core.specs.scp_theorem.proofs.Fit.{AllOut, all_none, all_for}
 use Rattle.scp_core.specs.declared.event.Event.{Event}
 use Rattle.scp_core.specs.declared.event.Event.TheVariants.{Open, Send, Close, Local, ReaderTake, ReaderPut, PendTake, PendPut, SlotTake, SlotPut, ApplyTake, Drain}
 use Rattle.scp_core.specs.declared.event.Reply.{Reply}

@@ -1,34 +1,34 @@
 -- Each thing that the slot stage takes: how the ledger stands then, and what is put.
 use Rattle.std.proofs.Common.{◌≡◌, ℕ, false, List, [], ◌∷◌, refl, sym, ◌∙◌, ap, subst, inl, inr}
 use Rattle.std.specs.Prelude.{Option, Some, None, Contains}
-use Rattle.scp_driver.specs.Driver.{Says}
-use Rattle.scp_types.specs.declared.names.ConnId.{ConnId}
-use Rattle.scp_types.specs.declared.names.Seq.{Seq}
-use Rattle.scp_types.specs.declared.names.Slot.{Slot}
-use Rattle.scp_quorum.specs.SharedSet.{SharedSet}
-use Rattle.scp_envelope.specs.declared.statement.Statement.{Statement}
-use Rattle.scp_wire.specs.declared.message.Message.TheVariants.{GetRecord}
-use Rattle.scp_outbox.specs.Sent.{statement_of}
-use Rattle.scp_pending.specs.declared.ready.Ready.{Ready}
-use Rattle.scp_slot.specs.declared.machine.SlotMachine.{SlotMachine}
-use Rattle.scp_slot.specs.declared.output.SlotInput.{SlotInput}
-use Rattle.scp_ledger.specs.declared.journal.Decision.{Decision}
-use Rattle.scp_ledger.specs.declared.journal.Fate.{Fate}
-use Rattle.scp_ledger.specs.declared.journal.Verdict.{Verdict}
-use Rattle.scp_ledger.specs.declared.journal.Verdict.TheVariants.{Already, Decided as Deciding}
-use Rattle.scp_ledger.specs.declared.took.Outgoing.{Outgoing}
-use Rattle.scp_ledger.specs.declared.took.Outgoing.TheVariants.{To}
-use Rattle.scp_ledger.specs.declared.took.Took.{Took}
-use Rattle.scp_ledger.specs.By.{TakesBy}
-use Rattle.scp_ledger.specs.Decisions.{is_decided, named_by}
-use Rattle.scp_ledger.specs.Seen.{LedgerView, machine_at}
-use Rattle.scp_ledger.specs.Takes.{RunsAt, Passes, Decides, Forwards, Asks}
-use Rattle.scp_ledger.specs.Verdicts.{IsRecordVerdict, link_of}
-use Rattle.scp_theorem.specs.Grounds.{Who}
-use Rattle.scp_theorem.specs.Handed.{handed_by}
-use Rattle.scp_theorem.proofs.Basics.{none_some, some_same, which}
-use Rattle.scp_theorem.proofs.Fit.{AllOut, all_none, all_for}
-use Rattle.scp_theorem.proofs.Ledgers.{LedgerStep, ledger_step, whatever_thing}
+use Rattle.scp_core.specs.scp_driver.specs.Driver.{Says}
+use Rattle.scp_core.specs.scp_types.specs.declared.names.ConnId.{ConnId}
+use Rattle.scp_core.specs.scp_types.specs.declared.names.Seq.{Seq}
+use Rattle.scp_core.specs.scp_types.specs.declared.names.Slot.{Slot}
+use Rattle.scp_core.specs.scp_quorum.specs.SharedSet.{SharedSet}
+use Rattle.scp_core.specs.scp_envelope.specs.declared.statement.Statement.{Statement}
+use Rattle.scp_core.specs.scp_wire.specs.declared.message.Message.TheVariants.{GetRecord}
+use Rattle.scp_core.specs.scp_outbox.specs.Sent.{statement_of}
+use Rattle.scp_core.specs.scp_pending.specs.declared.ready.Ready.{Ready}
+use Rattle.scp_core.specs.scp_slot.specs.declared.machine.SlotMachine.{SlotMachine}
+use Rattle.scp_core.specs.scp_slot.specs.declared.output.SlotInput.{SlotInput}
+use Rattle.scp_core.specs.scp_ledger.specs.declared.journal.Decision.{Decision}
+use Rattle.scp_core.specs.scp_ledger.specs.declared.journal.Fate.{Fate}
+use Rattle.scp_core.specs.scp_ledger.specs.declared.journal.Verdict.{Verdict}
+use Rattle.scp_core.specs.scp_ledger.specs.declared.journal.Verdict.TheVariants.{Already, Decided as Deciding}
+use Rattle.scp_core.specs.scp_ledger.specs.declared.took.Outgoing.{Outgoing}
+use Rattle.scp_core.specs.scp_ledger.specs.declared.took.Outgoing.TheVariants.{To}
+use Rattle.scp_core.specs.scp_ledger.specs.declared.took.Took.{Took}
+use Rattle.scp_core.specs.scp_ledger.specs.By.{TakesBy}
+use Rattle.scp_core.specs.scp_ledger.specs.Decisions.{is_decided, named_by}
+use Rattle.scp_core.specs.scp_ledger.specs.Seen.{LedgerView, machine_at}
+use Rattle.scp_core.specs.scp_ledger.specs.Takes.{RunsAt, Passes, Decides, Forwards, Asks}
+use Rattle.scp_core.specs.scp_ledger.specs.Verdicts.{IsRecordVerdict, link_of}
+use Rattle.scp_core.specs.scp_theorem.specs.Grounds.{Who}
+use Rattle.scp_core.specs.scp_theorem.specs.Handed.{handed_by}
+use Rattle.scp_core.specs.scp_theorem.proofs.Basics.{none_some, some_same, which}
+use Rattle.scp_core.specs.scp_theorem.proofs.Fit.{AllOut, all_none, all_for}
+use Rattle.scp_core.specs.scp_theorem.proofs.Ledgers.{LedgerStep, ledger_step, whatever_thing}
 use Rattle.scp_again.proofs.Current.{IsOwnIf, HasDecision, IsWell, IsSaid, IsLast}
 use Rattle.scp_again.proofs.AtSlot.{IsOver, IsAtSlot, well_then, said_then, last_then}
 use Rattle.scp_again.proofs.Put.{ArePut, put_quiet}

@@ -1,3 +1,13 @@
+pub use Rattle.scp_core.specs.scp_types
+pub use Rattle.scp_core.specs.scp_xdr
+pub use Rattle.scp_core.specs.scp_quorum
+pub use Rattle.scp_core.specs.scp_driver
+pub use Rattle.scp_core.specs.scp_nominate
+pub use Rattle.scp_core.specs.scp_slot
+pub use Rattle.scp_core.specs.scp_wire
+pub use Rattle.scp_core.specs.scp_outbox
+pub use Rattle.scp_core.specs.scp_ledger
+pub use Rattle.scp_core
 pub mod Again
 pub mod Ascending
 pub mod Laws

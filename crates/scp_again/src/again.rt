@@ -1,19 +1,19 @@
 //! What a node sends once more to a peer.
 ghost use Rattle.std.specs.Prelude.{◌≡◌, ◌++◌, ◌+◌, ◌∷◌, [], IfOk, OnOk, IsOkUnless, Some};
 ghost use Rattle.std.specs.Option.{option_map};
-ghost use Rattle.scp_types.specs.declared.fault.Fault.{Fault};
-ghost use Rattle.scp_nominate.specs.Nomination.{own};
-ghost use Rattle.scp_slot.specs.Slot.{slot_view};
-ghost use Rattle.scp_ledger.specs.Seen.{machine_at};
+ghost use Rattle.scp_core.specs.scp_types.specs.declared.fault.Fault.{Fault};
+ghost use Rattle.scp_core.specs.scp_nominate.specs.Nomination.{own};
+ghost use Rattle.scp_core.specs.scp_slot.specs.Slot.{slot_view};
+ghost use Rattle.scp_core.specs.scp_ledger.specs.Seen.{machine_at};
 ghost use Rattle.scp_again.specs.Again.{last_of, enveloped, own_messages, emitted_by, asked_for, again_at, slots_again, decided_again, own_of, again_of};
 
-use scp_driver::Driver;
-use scp_envelope::{Envelope, SharedEnvelope, Signature, Statement};
-use scp_ledger::{Ledger, Origin, SharedDecision};
-use scp_slot::SlotMachine;
-use scp_types::{Fault, NodeId, Slot, WINDOW};
-use scp_vote::StatementKind;
-use scp_wire::{BoxedEnvelope, Message};
+use scp_core::below::driver::Driver;
+use scp_core::below::envelope::{Envelope, SharedEnvelope, Signature, Statement};
+use scp_core::below::ledger::{Ledger, Origin, SharedDecision};
+use scp_core::below::slot::SlotMachine;
+use scp_core::below::types::{Fault, NodeId, Slot, WINDOW};
+use scp_core::below::vote::StatementKind;
+use scp_core::below::wire::{BoxedEnvelope, Message};
 use std::alloc::{AllocError, Global};
 
 /// Adds an envelope as a message.

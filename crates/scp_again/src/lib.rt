@@ -9,6 +9,7 @@
 #![tactic(auto)]
 
 mod again;
+pub mod below;
 mod laws;
 
 pub use again::messages_again;

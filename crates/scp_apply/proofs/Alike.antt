@@ -6,7 +6,7 @@ use Rattle.std.proofs.lemmas.List.{get_or_default}
 use Rattle.std.proofs.lemmas.List.Elements.{All-nil, All-cons, All-contains, Contains-push, Contains-append_left, Contains-append_right, Contains-append_cases}
 use Rattle.std.proofs.lemmas.List.Quantifiers.{all_pairs_push}
 use Rattle.std.proofs.lemmas.List.Sorted.{Contains-permutation, IsPermutation-sym}
-use Rattle.scp_wire.specs.declared.message.Message.TheVariants.{Record}
+use Rattle.scp_ledger.specs.scp_wire.specs.declared.message.Message.TheVariants.{Record}
 use Rattle.scp_ledger.specs.declared.journal.Decision.{Decision}
 use Rattle.scp_ledger.specs.declared.took.Onward.TheVariants.{Decided, Asked}
 use Rattle.scp_ledger.specs.Decisions.{OnePerSlot}
@@ -151,6 +151,7 @@ decided_alike v w d v' w' same known running can takes taken then_v going_v then
     let longer : length w'.applied ≡ length v'.applied = ap length applied in
     record {
       first = begun;
+      base = taken.base ∙ same.base ∙ sym takes.base;
       failed = taken.runs ∙ sym takes.runs;
       applied = applied;
       buffer = λ e. (

@@ -11,13 +11,13 @@ use Rattle.std.proofs.lemmas.List.Folds.{list_any_at}
 use Rattle.std.proofs.lemmas.List.Quantifiers.{all_pairs_remove, all_pairs_push}
 use Rattle.std.proofs.lemmas.List.Sorted.{IsPermutation-more, IsPermutation-refl}
 use Rattle.std.proofs.lemmas.List.Sums.{fails_before_first}
-use Rattle.scp_types.specs.declared.limits.TheConstants.{WINDOW}
+use Rattle.scp_ledger.specs.scp_types.specs.declared.limits.TheConstants.{WINDOW}
 use Rattle.scp_ledger.specs.declared.journal.Decision.{Decision}
 use Rattle.scp_ledger.specs.Decisions.{is_at, is_decided, OnePerSlot}
 use Rattle.scp_apply.specs.declared.slots.Slots.{Slots}
 use Rattle.scp_apply.specs.Applied.{AreInOrder, values_of, made_of}
 use Rattle.scp_apply.specs.Applier.{IsInWindow}
-use Rattle.scp_apply.specs.inside.Slots.{slots_view, next_in, IsApplied, IsSound, AppliesOne, Advances}
+use Rattle.scp_apply.specs.inside.Slots.{slots_view, next_in, IsApplied, IsSound, IsMade, AppliesOne, Advances}
 
 fold-push : {A B : Type 0} (f : B → A → B) (a : B) (xs : List A) (x : A) → fold f a (xs ++ x ∷ []) ≡ f (fold f a xs) x
 fold-push f a [] x = refl
@@ -34,6 +34,10 @@ made-push first after' more d = ap (λ (values : List (List ℕ)). fold after' f
 pub made-append : {S : Type 0} (first : S) (after' : S → List ℕ → S) (applied more : List Decision) → made_of first after' (applied ++ more) ≡ made_of (made_of first after' applied) after' more
 made-append first after' [] more = refl
 made-append first after' (d ∷ ds) more = made-append (after' first d.value) after' ds more
+
+-- what applied nothing has the state that its bytes say
+pub made_none : {S : Type 0} (said : List ℕ → S) (after' : S → List ℕ → S) (s : Slots) (bytes : List ℕ) (state : S) → s.base.items ≡ bytes → s.applied.items ≡ [] → state ≡ said bytes → IsMade (said s.base.items) after' s state
+made_none said after' s bytes state base none e = e ∙ ap said (sym base) ∙ ap (λ (ds : List Decision). made_of (said s.base.items) after' ds) (sym none)
 
 -- ---- one is taken out of the buffer
 
@@ -58,16 +62,17 @@ apart ds place k d one within lt ne = elim (cases_lt k place) [
 pub record IsAdvancing {S : Type 0} (after' : S → List ℕ → S) (start : Slots) (before : S) (now : Slots) (state : S) : Type 0 where
   pub is_applied : IsApplied now
   pub same_start : now.before ≡ start.before
+  pub same_base : now.base.items ≡ start.base.items
   pub shared_out : IsPermutation (start.applied.items ++ start.buffer.items) (now.applied.items ++ now.buffer.items)
   pub more : List Decision
   pub grows : now.applied.items ≡ start.applied.items ++ more
   pub state_is : state ≡ made_of before after' more
 
 pub begins : {S : Type 0} (after' : S → List ℕ → S) (start : Slots) (before : S) → IsApplied start → IsAdvancing after' start before start before
-begins after' start before h = record { is_applied = h; same_start = refl; shared_out = IsPermutation-refl (start.applied.items ++ start.buffer.items); more = []; grows = sym (append-nil start.applied.items); state_is = refl }
+begins after' start before h = record { is_applied = h; same_start = refl; same_base = refl; shared_out = IsPermutation-refl (start.applied.items ++ start.buffer.items); more = []; grows = sym (append-nil start.applied.items); state_is = refl }
 
-pub goes_on : {S : Type 0} (after' : S → List ℕ → S) (start : Slots) (before : S) (now : Slots) (state : S) (place : ℕ) (next : Slots) (then' : S) → place < length now.buffer.items → ((d : Decision) → is_at (next_in now) (get_or now.buffer.items place d) ≡ true) → AppliesOne after' now state place next then' → next.before ≡ now.before → IsAdvancing after' start before now state → IsAdvancing after' start before next then'
-goes_on after' start before now state place next then' within at one same h =
+pub goes_on : {S : Type 0} (after' : S → List ℕ → S) (start : Slots) (before : S) (now : Slots) (state : S) (place : ℕ) (next : Slots) (then' : S) → place < length now.buffer.items → ((d : Decision) → is_at (next_in now) (get_or now.buffer.items place d) ≡ true) → AppliesOne after' now state place next then' → next.before ≡ now.before → next.base.items ≡ now.base.items → IsAdvancing after' start before now state → IsAdvancing after' start before next then'
+goes_on after' start before now state place next then' within at one same bytes h =
     let d = one.decision in
     let applied = now.applied.items in
     let buffer = now.buffer.items in
@@ -84,6 +89,7 @@ goes_on after' start before now state place next then' within at one same h =
         one = rw one.buffer (all_pairs_remove (λ (x y : Decision). x.slot.0 ≢ y.slot.0) buffer place within h.is_applied.one);
       };
       same_start = same ∙ h.same_start;
+      same_base = bytes ∙ h.same_base;
       shared_out = rw (one.applied, one.buffer) moved;
       more = h.more ++ d ∷ [];
       grows = one.applied ∙ ap (λ (ds : List Decision). ds ++ d ∷ []) h.grows ∙ append_assoc start.applied.items h.more (d ∷ []);

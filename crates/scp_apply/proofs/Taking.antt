@@ -5,7 +5,7 @@ use Rattle.std.specs.List.Sorted.{IsPermutation}
 use Rattle.std.proofs.lemmas.List.{append-nil}
 use Rattle.std.proofs.lemmas.Grind.{flat_map-append}
 use Rattle.std.proofs.lemmas.List.Sorted.{IsPermutation-append, IsPermutation-refl, IsPermutation-trans}
-use Rattle.scp_wire.specs.declared.message.Message.{Message}
+use Rattle.scp_ledger.specs.scp_wire.specs.declared.message.Message.{Message}
 use Rattle.scp_ledger.specs.declared.journal.Decision.{Decision}
 use Rattle.scp_ledger.specs.declared.took.Onward.{Onward}
 use Rattle.scp_ledger.specs.declared.took.Onward.TheVariants.{Decided, Asked}

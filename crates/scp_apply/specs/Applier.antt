@@ -1,18 +1,19 @@
 -- What clients see of an applier, and what it does with each thing that it takes.
 use Rattle.std.specs.Prelude.{ℕ, ◌+◌, ◌<◌, ◌≤◌, ◌≡◌, Bool, false, List, [], ◌∷◌, ◌++◌, Option, None, All, length, option_map}
 use Rattle.std.specs.List.Sorted.{IsPermutation}
-use Rattle.scp_types.specs.declared.limits.TheConstants.{WINDOW}
-use Rattle.scp_wire.specs.declared.message.Message.{Message}
-use Rattle.scp_wire.specs.declared.message.Message.TheVariants.{Record}
+use Rattle.scp_ledger.specs.scp_types.specs.declared.limits.TheConstants.{WINDOW}
+use Rattle.scp_ledger.specs.scp_wire.specs.declared.message.Message.{Message}
+use Rattle.scp_ledger.specs.scp_wire.specs.declared.message.Message.TheVariants.{Record}
 use Rattle.scp_ledger.specs.declared.journal.Decision.{Decision}
 use Rattle.scp_ledger.specs.declared.took.Onward.{Onward}
 use Rattle.scp_ledger.specs.declared.took.Onward.TheVariants.{Decided, Asked}
 use Rattle.scp_ledger.specs.Decisions.{is_decided, OnePerSlot}
 use Rattle.scp_apply.specs.Applied.{AreInOrder, value_of}
 
--- what contracts see of an applier; the state isn't part of it, since it is what the applied values make
+-- what contracts see of an applier; the state isn't part of it, since it is what the applied values make of the one that it began with
 pub record ApplierView : Type 0 where
   pub first : ℕ  -- the slot that it began with
+  pub base : List ℕ  -- the bytes of the state that it began with; none for the application's first one
   pub failed : Bool
   pub applied : List Decision
   pub buffer : List Decision  -- what was taken and isn't applied yet
@@ -47,10 +48,11 @@ abbrev pub CanTake : ApplierView → Onward → Type 0
 CanTake v (Decided d) = IsInWindow v d.slot.0
 CanTake v (Asked link slot) = Unit {0}
 
--- The decision is buffered, and what is next is applied, from the same first slot on. What was applied or buffered, with it, is
+-- The decision is buffered, and what is next is applied, from the same beginning on. What was applied or buffered, with it, is
 -- applied or buffered now.
 pub record Applies (old : ApplierView) (d : Decision) (new : ApplierView) : Type 0 where
   pub first : new.first ≡ old.first
+  pub base : new.base ≡ old.base
   pub runs : new.failed ≡ false
   pub shared_out : IsPermutation (old.applied ++ (old.buffer ++ d ∷ [])) (new.applied ++ new.buffer)
   pub more : List Decision

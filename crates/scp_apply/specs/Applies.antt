@@ -1,7 +1,7 @@
 -- What holds of an applier and of what it took.
 use Rattle.std.specs.Prelude.{◌≡◌, ℕ, false, List, [], ◌∷◌, ◌++◌, Option}
 use Rattle.std.specs.List.Sorted.{IsPermutation}
-use Rattle.scp_wire.specs.declared.message.Message.{Message}
+use Rattle.scp_ledger.specs.scp_wire.specs.declared.message.Message.{Message}
 use Rattle.scp_ledger.specs.declared.took.Onward.{Onward}
 use Rattle.scp_ledger.specs.Onwards.{decisions_on, KeepsWindow}
 use Rattle.scp_apply.specs.Applier.{ApplierView, IsApplier, IsRunning, CanTake}

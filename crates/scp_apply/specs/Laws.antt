@@ -1,7 +1,7 @@
 -- What the definitions give together.
 use Rattle.std.specs.Prelude.{◌≡◌, ◌↔◌, ◌++◌, ℕ, List, Option, Contains}
 use Rattle.std.specs.List.Sorted.{IsPermutation}
-use Rattle.scp_wire.specs.declared.message.Message.{Message}
+use Rattle.scp_ledger.specs.scp_wire.specs.declared.message.Message.{Message}
 use Rattle.scp_ledger.specs.declared.journal.Decision.{Decision}
 use Rattle.scp_ledger.specs.declared.took.Onward.{Onward}
 use Rattle.scp_ledger.specs.Decisions.{IsNext}
@@ -14,6 +14,7 @@ NextCanBeTaken = (v : ApplierView) (earlier : List Decision) (d : Decision) → 
 -- two appliers show the same, except for the order of their buffers
 pub record ShowTheSame (v w : ApplierView) : Type 0 where
   pub first : w.first ≡ v.first
+  pub base : w.base ≡ v.base
   pub failed : w.failed ≡ v.failed
   pub applied : w.applied ≡ v.applied
   pub buffer : (d : Decision) → Contains w.buffer d ↔ Contains v.buffer d

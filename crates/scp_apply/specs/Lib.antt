@@ -1,3 +1,12 @@
+pub use Rattle.scp_ledger.specs.scp_kv
+pub use Rattle.scp_ledger.specs.scp_vote
+pub use Rattle.scp_ledger.specs.scp_driver
+pub use Rattle.scp_ledger.specs.scp_nominate
+pub use Rattle.scp_ledger.specs.scp_ballot_rules
+pub use Rattle.scp_ledger.specs.scp_ballot
+pub use Rattle.scp_ledger.specs.scp_slot
+pub use Rattle.scp_ledger.specs.scp_fetch
+pub use Rattle.scp_ledger.specs.scp_pending
 pub use Rattle.scp_ledger
 pub mod Applied
 pub mod Applier

@@ -1,14 +1,16 @@
 //! An applier.
-ghost use Rattle.std.specs.Prelude.{◌≡◌, ◌+◌, ◌↔◌, IsTrue, ◌⊎◌, [], true, false, OnOk, OnErr, IfOk, IfErr, IfSome, IsErrOf, None, Some, if◌then◌else◌, option_copied};
-ghost use Rattle.scp_wire.specs.Fitting.{IsFitting};
+ghost use Rattle.std.specs.Prelude.{◌≡◌, ◌≢◌, ◌+◌, ◌↔◌, IsTrue, ◌⊎◌, [], true, false, OnOk, OnErr, IfOk, IfErr, IfSome, IsErrOf, None, Some, if◌then◌else◌, option_copied};
+ghost use Rattle.scp_ledger.specs.scp_xdr.specs.Words.{IsReadingFault};
+ghost use Rattle.scp_ledger.specs.scp_driver.specs.Driver.{IsBase};
+ghost use Rattle.scp_ledger.specs.scp_wire.specs.Fitting.{IsFitting};
 ghost use Rattle.scp_apply.specs.Applied.{made_of, value_of};
 ghost use Rattle.scp_apply.specs.Applier.{IsApplier, IsRunning, IsInWindow, CanTake, Takes};
 
 use crate::slots::Slots;
-use scp_driver::Application;
+use scp_ledger::below::driver::Application;
+use scp_ledger::below::types::{Fault, Slot, Value};
+use scp_ledger::below::wire::Message;
 use scp_ledger::{Onward, SharedDecision};
-use scp_types::{Fault, Slot, Value};
-use scp_wire::Message;
 use std::alloc::Global;
 use std::marker::Model;
 
@@ -33,21 +35,58 @@ impl<A: Application> Model for Applier<A> {
 
     ghost view = { applier_view };
 
-    ghost invariant = { IsWell A.first A.after };
+    ghost invariant = { IsWell A.begins A.after };
 }
 
 impl<A: Application> Applier<A> {
-    /// An applier that took nothing. Its first slot is the one after `before`, so 0 is given for slot 1. Takes no memory.
+    /// An applier that took nothing, with the application's first state. Its first slot is the one after `before`, so 0 is given for
+    /// slot 1. Takes no memory.
     pub fn new(alloc: Global, before: u32) -> Applier<A>
-        ensures empty { result ≡ record { first = before + 1; failed = false; applied = []; buffer = [] } }
+        ensures empty { result ≡ record { first = before + 1; base = []; failed = false; applied = []; buffer = [] } }
         ensures known { IsApplier result }
         ensures running { IsRunning result }
     {
+        let base = Vec::new(alloc);
+        let slots = Slots::new(alloc, before, base);
+        let state = A::new_state(alloc);
         Applier {
-            slots: Slots::new(alloc, before),
-            state: A::new_state(alloc),
+            slots,
+            state,
             failed: false,
         }
+    }
+
+    /// An applier that took nothing, with the state that these bytes say. Its first slot is the one after `before`. It keeps the bytes.
+    /// Refused as `Application::begin` is: by `Malformed` or `TooLong` if they say no state, else by `NoMemory`.
+    pub fn begin(alloc: Global, before: u32, base: Vec<u8>) -> Result<Applier<A>, Fault>
+        ensures empty { IfOk result (λ applier. applier ≡ record { first = before + 1; base = base.items; failed = false; applied = []; buffer = [] }) }
+        ensures known { IfOk result IsApplier }
+        ensures running { IfOk result IsRunning }
+        ensures base { IfOk result (λ _. IsBase A.begins A.written base.items) }
+        ensures refused { IfErr result (λ f. f ≢ Fault.NoMemory → ¬ (IsBase A.begins A.written base.items)) }
+        ensures faults { IfErr result (λ f. f ≢ Fault.NoMemory → IsReadingFault f) }
+    {
+        let state = A::begin(alloc, base.as_slice())?;
+        let slots = Slots::new(alloc, before, base);
+        Ok(Applier {
+            slots,
+            state,
+            failed: false,
+        })
+    }
+
+    /// The last slot before its first one: 0 where that is slot 1.
+    pub fn before(&self) -> u32
+        ensures { self.now.first ≡ result + 1 }
+    {
+        self.slots.before
+    }
+
+    /// The bytes of the state with which it began; none for the application's first state.
+    pub fn base(&self) -> &[u8]
+        ensures { result.now ≡ self.now.base }
+    {
+        self.slots.base.as_slice()
     }
 
     /// The decisions that are applied, those of the first slot and of the slots after it, in order.
@@ -58,9 +97,9 @@ impl<A: Application> Applier<A> {
         self.slots.applied.as_slice()
     }
 
-    /// The state that the applied values make, from the first to the last. A failed applier has none.
+    /// The state that the applied values make of the one that it began with, from the first to the last. A failed applier has none.
     pub fn state(&self) -> Option<&A::State>
-        ensures made { option_copied result ≡ (if self.now.failed then None else Some (made_of A.first A.after self.now.applied)) }
+        ensures made { option_copied result ≡ (if self.now.failed then None else Some (made_of (A.begins self.now.base) A.after self.now.applied)) }
         ensures running { self.now.failed ≡ false → IsRunning self.now }
     {
         if self.failed {
@@ -72,7 +111,7 @@ impl<A: Application> Applier<A> {
     /// The applied decisions and the state, which a failed applier doesn't have. For when nothing more will be taken. Takes no memory.
     pub fn into_applied(self) -> (Vec<SharedDecision>, Option<A::State>)
         ensures applied { result.0.items ≡ self.applied }
-        ensures made { result.1 ≡ (if self.failed then None else Some (made_of A.first A.after self.applied)) }
+        ensures made { result.1 ≡ (if self.failed then None else Some (made_of (A.begins self.base) A.after self.applied)) }
     {
         let Applier {
             slots,
@@ -112,6 +151,7 @@ impl<A: Application> Applier<A> {
         ensures known { IsApplier self.new }
         ensures running { self.new.failed ≡ false → IsRunning self.new }
         ensures first { self.new.first ≡ self.old.first }
+        ensures base { self.new.base ≡ self.old.base }
         // When each refusal comes, and what it leaves.
         ensures failed { IsErrOf result Fault.Failed ↔ (self.old.failed ≡ true) }
         ensures same { self.old.failed ≡ true → self.new ≡ self.old }

@@ -2,7 +2,7 @@
 //!
 //! What each `Applier::take` promises:
 //! - The slots from its first on are applied once each, in order, each with its decision. The state is what
-//!   the application makes of their values, one after another.
+//!   the application makes of their values, one after another, from the state on with which the applier began.
 //! - What was taken and isn't applied yet is buffered. The next slot never is, so at most 15 decisions are, those of the 15 slots after it.
 //! - A request for a slot's record is answered exactly if the slot is applied.
 //! - Whoever takes a ledger's decisions in their order never meets a slot that can't be taken.
@@ -11,6 +11,7 @@
 #![tactic(auto)]
 
 mod applier;
+pub mod below;
 mod laws;
 mod slots;
 

@@ -1,16 +1,16 @@
 //! Decisions in the order of their slots, applied to a state.
 ghost use Rattle.std.specs.Prelude.{◌≡◌, ◌↔◌, IsTrue, ◌++◌, ◌∷◌, [], ◌+◌, ◌<◌, ◌≤◌, length, List, IfOk, IfSome, OnOk, OnErr, IsOkUnless, position, option_copied, option_map, false};
-ghost use Rattle.scp_wire.specs.Fitting.{IsFitting};
+ghost use Rattle.scp_ledger.specs.scp_wire.specs.Fitting.{IsFitting};
 ghost use Rattle.scp_ledger.specs.declared.journal.Decision.{Decision};
 ghost use Rattle.scp_ledger.specs.Decisions.{is_at, is_decided};
 ghost use Rattle.scp_apply.specs.Applied.{AreInOrder, value_of};
 ghost use Rattle.scp_apply.specs.Applier.{IsInWindow, CanTake, Takes};
 ghost use Rattle.scp_apply.specs.inside.Slots.{slots_view, next_in, IsApplied, IsSound, IsMade, AppliesOne, Advances, Enters};
 
-use scp_driver::Application;
+use scp_ledger::below::driver::Application;
+use scp_ledger::below::types::{Fault, Slot, Value, WINDOW};
+use scp_ledger::below::wire::Message;
 use scp_ledger::{DECIDED_LIMIT, Onward, SharedDecision};
-use scp_types::{Fault, Slot, Value, WINDOW};
-use scp_wire::Message;
 use std::alloc::Global;
 
 /// What is applied, and what is buffered until it is next.
@@ -18,19 +18,23 @@ use std::alloc::Global;
 pub struct Slots {
     /// The last slot before the first one: 0 where that is slot 1.
     pub before: u32,
+    /// The bytes of the state before the first slot; none for the application's first state.
+    pub base: Vec<u8>,
     pub applied: Vec<SharedDecision>,
     pub buffer: Vec<SharedDecision>,
 }
 
 impl Slots {
-    pub fn new(alloc: Global, before: u32) -> Slots
+    pub fn new(alloc: Global, before: u32, base: Vec<u8>) -> Slots
         ensures before { result.before ≡ before }
+        ensures base { result.base.items ≡ base.items }
         ensures applied { result.applied.items ≡ [] }
         ensures buffer { result.buffer.items ≡ [] }
         ensures sound { IsSound result }
     {
         Slots {
             before,
+            base,
             applied: Vec::new(alloc),
             buffer: Vec::new(alloc),
         }
@@ -73,7 +77,8 @@ impl Slots {
         ensures fits { IfOk result (λ answer. IfSome answer (λ sent. IsFitting sent.1)) }
         ensures sound { OnOk result (IsSound self.new) }
         ensures before { self.new.before ≡ self.old.before }
-        ensures made { IsMade A.first A.after self.old state.old → OnOk result (IsMade A.first A.after self.new state.new) }
+        ensures base { self.new.base.items ≡ self.old.base.items }
+        ensures made { IsMade (A.begins self.old.base.items) A.after self.old state.old → OnOk result (IsMade (A.begins self.old.base.items) A.after self.new state.new) }
         ensures err { OnErr result (self.new.applied.items ≡ self.old.applied.items) }
         ensures only_memory { IsOkUnless result Fault.NoMemory }
     {
@@ -110,6 +115,7 @@ impl Slots {
         requires in_window { IsInWindow (slots_view false self.old) decision.slot.0 }
         ensures ok { OnOk result (Enters A.after self.old state.old decision self.new state.new) }
         ensures before { self.new.before ≡ self.old.before }
+        ensures base { self.new.base.items ≡ self.old.base.items }
         ensures err { OnErr result (self.new.applied.items ≡ self.old.applied.items) }
         ensures only_memory { IsOkUnless result Fault.NoMemory }
     {
@@ -131,6 +137,7 @@ impl Slots {
         requires in_window { IsInWindow (slots_view false self.old) decision.slot.0 }
         ensures ok { OnOk result (Enters A.after self.old state.old decision self.new state.new) }
         ensures before { self.new.before ≡ self.old.before }
+        ensures base { self.new.base.items ≡ self.old.base.items }
         ensures err { OnErr result ((more : List Decision) × (self.new.applied.items ≡ self.old.applied.items ++ more)) }
         ensures only_memory { IsOkUnless result Fault.NoMemory }
     {
@@ -143,6 +150,7 @@ impl Slots {
         requires is_applied { IsApplied self.old }
         ensures ok { OnOk result (Advances A.after self.old state.old self.new state.new) }
         ensures before { self.new.before ≡ self.old.before }
+        ensures base { self.new.base.items ≡ self.old.base.items }
         ensures err { OnErr result ((more : List Decision) × (self.new.applied.items ≡ self.old.applied.items ++ more)) }
         ensures only_memory { IsOkUnless result Fault.NoMemory }
     {
@@ -167,6 +175,7 @@ impl Slots {
         requires { place < length self.old.buffer.items }
         ensures ok { OnOk result (AppliesOne A.after self.old state.old place self.new state.new) }
         ensures before { self.new.before ≡ self.old.before }
+        ensures base { self.new.base.items ≡ self.old.base.items }
         ensures err { OnErr result (self.new.applied.items ≡ self.old.applied.items) }
         ensures only_memory { IsOkUnless result Fault.NoMemory }
     {

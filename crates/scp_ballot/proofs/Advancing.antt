@@ -1,18 +1,18 @@
 -- What the machine gives is what a balloter promises.
 use Rattle.std.proofs.Common.{◌≡◌, ◌<◌, ◌≤◌, ◌⊎◌, ◌↔◌, Bool, true, false, [], Option, Some, None, is_some, IsSome, IsSomeAnd, refl, sym, ◌∙◌, ap, subst, inl, inr, arith}
 use Rattle.std.specs.Option.{option_map, ForSome}
-use Rattle.scp_types.specs.declared.ballot.Ballot.{Ballot}
-use Rattle.scp_types.specs.declared.names.Hash.{Hash}
-use Rattle.scp_types.specs.declared.names.Slot.{Slot}
-use Rattle.scp_envelope.specs.Kinds.{set_hash_of}
-use Rattle.scp_envelope.specs.Sane.{IsSane}
-use Rattle.scp_envelope.specs.Newer.{IsNewer, ArePledgesNewer}
-use Rattle.scp_envelope.specs.declared.statement.Pledges.{Pledges}
-use Rattle.scp_envelope.specs.declared.statement.Statement.{Statement}
-use Rattle.scp_envelope.specs.declared.statement.Envelope.{Envelope}
-use Rattle.scp_vote.specs.declared.claim.StatementKind.TheVariants.{Balloting}
-use Rattle.scp_vote.specs.Board.{kind_of_pledges}
-use Rattle.scp_vote.specs.Licence.{IsExternalize}
+use Rattle.scp_ballot_rules.specs.scp_types.specs.declared.ballot.Ballot.{Ballot}
+use Rattle.scp_ballot_rules.specs.scp_types.specs.declared.names.Hash.{Hash}
+use Rattle.scp_ballot_rules.specs.scp_types.specs.declared.names.Slot.{Slot}
+use Rattle.scp_ballot_rules.specs.scp_envelope.specs.Kinds.{set_hash_of}
+use Rattle.scp_ballot_rules.specs.scp_envelope.specs.Sane.{IsSane}
+use Rattle.scp_ballot_rules.specs.scp_envelope.specs.Newer.{IsNewer, ArePledgesNewer}
+use Rattle.scp_ballot_rules.specs.scp_envelope.specs.declared.statement.Pledges.{Pledges}
+use Rattle.scp_ballot_rules.specs.scp_envelope.specs.declared.statement.Statement.{Statement}
+use Rattle.scp_ballot_rules.specs.scp_envelope.specs.declared.statement.Envelope.{Envelope}
+use Rattle.scp_ballot_rules.specs.scp_vote.specs.declared.claim.StatementKind.TheVariants.{Balloting}
+use Rattle.scp_ballot_rules.specs.scp_vote.specs.Board.{kind_of_pledges}
+use Rattle.scp_ballot_rules.specs.scp_vote.specs.Licence.{IsExternalize}
 use Rattle.scp_ballot_rules.specs.declared.state.State.{State}
 use Rattle.scp_ballot_rules.specs.declared.state.Phase.{Phase}
 use Rattle.scp_ballot_rules.specs.declared.state.Phase.TheVariants.{Prepare, Confirm, Externalize}

@@ -4,14 +4,14 @@ use Rattle.std.specs.Option.{ForSome}
 use Rattle.std.proofs.lemmas.Bool.{cases_order}
 use Rattle.std.specs.Map.{lookup}
 use Rattle.std.specs.BTreeMap.{is_at}
-use Rattle.scp_types.specs.declared.names.NodeId.{NodeId}
-use Rattle.scp_quorum.specs.NodeSet.{node_cmp}
-use Rattle.scp_quorum.specs.Satisfies.{Blocks}
-use Rattle.scp_quorum.specs.Sane.{IsInRange}
-use Rattle.scp_envelope.specs.declared.statement.Pledges.{Pledges}
-use Rattle.scp_vote.specs.declared.statements.Entry.{Entry}
-use Rattle.scp_vote.specs.Board.{Seen}
-use Rattle.scp_vote.proofs.Chain.{same_at, at_itself}
+use Rattle.scp_ballot_rules.specs.scp_types.specs.declared.names.NodeId.{NodeId}
+use Rattle.scp_ballot_rules.specs.scp_quorum.specs.NodeSet.{node_cmp}
+use Rattle.scp_ballot_rules.specs.scp_quorum.specs.Satisfies.{Blocks}
+use Rattle.scp_ballot_rules.specs.scp_quorum.specs.Sane.{IsInRange}
+use Rattle.scp_ballot_rules.specs.scp_envelope.specs.declared.statement.Pledges.{Pledges}
+use Rattle.scp_ballot_rules.specs.scp_vote.specs.declared.statements.Entry.{Entry}
+use Rattle.scp_ballot_rules.specs.scp_vote.specs.Board.{Seen}
+use Rattle.scp_ballot_rules.specs.scp_vote.proofs.Chain.{same_at, at_itself}
 use Rattle.scp_ballot_rules.specs.Owed.{AreAheadOf, counter_in}
 use Rattle.scp_ballot_rules.proofs.Ahead.{none_block_nothing}
 use Rattle.scp_ballot_rules.proofs.Options.{some_of, some_and, at_some, some_same, none_some}

@@ -2,12 +2,12 @@
 use Rattle.std.proofs.Common.{◌≡◌, ◌+◌, ◌-◌, ◌<◌, ℕ, zero, suc, true, false, cond, Option, Some, None, refl, sym, ◌∙◌, ap, subst, inl, inr, arith}
 use Rattle.std.specs.BTreeMap.{is_at}
 use Rattle.std.proofs.Math.Path.{fun_ext}
-use Rattle.scp_types.specs.declared.names.NodeId.{NodeId}
-use Rattle.scp_types.specs.declared.names.Hash.{Hash}
-use Rattle.scp_quorum.specs.NodeSet.{node_cmp}
-use Rattle.scp_quorum.specs.QuorumTree.{QuorumTree}
-use Rattle.scp_envelope.specs.declared.statement.Pledges.{Pledges}
-use Rattle.scp_vote.specs.Board.{Seen, Puts}
+use Rattle.scp_ballot_rules.specs.scp_types.specs.declared.names.NodeId.{NodeId}
+use Rattle.scp_ballot_rules.specs.scp_types.specs.declared.names.Hash.{Hash}
+use Rattle.scp_ballot_rules.specs.scp_quorum.specs.NodeSet.{node_cmp}
+use Rattle.scp_ballot_rules.specs.scp_quorum.specs.QuorumTree.{QuorumTree}
+use Rattle.scp_ballot_rules.specs.scp_envelope.specs.declared.statement.Pledges.{Pledges}
+use Rattle.scp_ballot_rules.specs.scp_vote.specs.Board.{Seen, Puts}
 use Rattle.scp_ballot_rules.specs.declared.state.State.{State}
 use Rattle.scp_ballot_rules.specs.Own.{own_of}
 use Rattle.scp_ballot_rules.specs.Steps.{Step, Answers, renewed, Settles}

@@ -1,10 +1,10 @@
 -- The own statement is emitted where it is worth it.
 use Rattle.std.proofs.Common.{◌≡◌, [], Option, Some, None, refl, sym, ◌∙◌, ap, subst}
-use Rattle.scp_types.specs.declared.names.NodeId.{NodeId}
-use Rattle.scp_types.specs.declared.names.Slot.{Slot}
-use Rattle.scp_envelope.specs.declared.statement.Pledges.{Pledges}
-use Rattle.scp_envelope.specs.declared.statement.Statement.{Statement}
-use Rattle.scp_envelope.specs.declared.statement.Envelope.{Envelope}
+use Rattle.scp_ballot_rules.specs.scp_types.specs.declared.names.NodeId.{NodeId}
+use Rattle.scp_ballot_rules.specs.scp_types.specs.declared.names.Slot.{Slot}
+use Rattle.scp_ballot_rules.specs.scp_envelope.specs.declared.statement.Pledges.{Pledges}
+use Rattle.scp_ballot_rules.specs.scp_envelope.specs.declared.statement.Statement.{Statement}
+use Rattle.scp_ballot_rules.specs.scp_envelope.specs.declared.statement.Envelope.{Envelope}
 use Rattle.scp_ballot.specs.declared.machine.Machine.{Machine}
 use Rattle.scp_ballot.specs.inside.Machine.{IsOwnStatement}
 use Rattle.scp_ballot.specs.inside.Gives.{IsWorth, Emits}

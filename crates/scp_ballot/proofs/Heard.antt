@@ -2,14 +2,14 @@
 use Rattle.std.proofs.Common.{◌≡◌, ◌≢◌, Bool, true, false, cond, Option, Some, None, IfSome, refl, sym, ◌∙◌, ap, subst, ◌⊎◌, inl, inr}
 use Rattle.std.specs.Option.{option_map}
 use Rattle.std.specs.BTreeMap.{is_at}
-use Rattle.scp_types.specs.declared.names.NodeId.{NodeId}
-use Rattle.scp_quorum.specs.NodeSet.{node_cmp}
-use Rattle.scp_quorum.specs.QuorumTree.{QuorumTree}
-use Rattle.scp_envelope.specs.declared.statement.Pledges.{Pledges}
-use Rattle.scp_envelope.specs.declared.statement.Envelope.{Envelope}
-use Rattle.scp_vote.specs.Board.{Seen, PutsCounted, KeepsOwn}
-use Rattle.scp_vote.specs.declared.board.Board.{Board}
-use Rattle.scp_vote.proofs.Chain.{same_at}
+use Rattle.scp_ballot_rules.specs.scp_types.specs.declared.names.NodeId.{NodeId}
+use Rattle.scp_ballot_rules.specs.scp_quorum.specs.NodeSet.{node_cmp}
+use Rattle.scp_ballot_rules.specs.scp_quorum.specs.QuorumTree.{QuorumTree}
+use Rattle.scp_ballot_rules.specs.scp_envelope.specs.declared.statement.Pledges.{Pledges}
+use Rattle.scp_ballot_rules.specs.scp_envelope.specs.declared.statement.Envelope.{Envelope}
+use Rattle.scp_ballot_rules.specs.scp_vote.specs.Board.{Seen, PutsCounted, KeepsOwn}
+use Rattle.scp_ballot_rules.specs.scp_vote.specs.declared.board.Board.{Board}
+use Rattle.scp_ballot_rules.specs.scp_vote.proofs.Chain.{same_at}
 use Rattle.scp_ballot_rules.specs.declared.state.State.{State}
 use Rattle.scp_ballot_rules.specs.Own.{StandsFor}
 use Rattle.scp_ballot_rules.specs.Ready.{IsReady}

@@ -2,13 +2,13 @@
 use Rattle.std.proofs.Common.{◌≡◌, Bool, true, false, cond, List, [], ◌∷◌, Option, Some, refl, sym, ◌∙◌, ap}
 use Rattle.std.specs.Option.{option_map}
 use Rattle.std.specs.BTreeMap.{is_at}
-use Rattle.scp_quorum.specs.NodeSet.{node_cmp}
-use Rattle.scp_quorum.specs.QuorumTree.{QuorumTree}
-use Rattle.scp_envelope.specs.declared.statement.Pledges.{Pledges}
-use Rattle.scp_vote.specs.Board.{Seen}
-use Rattle.scp_vote.specs.Licence.{with_own, Leads, Licensed}
-use Rattle.scp_vote.proofs.Same.{follows_same}
-use Rattle.scp_vote.specs.inside.Chain.{IsSame, IsChain}
+use Rattle.scp_ballot_rules.specs.scp_quorum.specs.NodeSet.{node_cmp}
+use Rattle.scp_ballot_rules.specs.scp_quorum.specs.QuorumTree.{QuorumTree}
+use Rattle.scp_ballot_rules.specs.scp_envelope.specs.declared.statement.Pledges.{Pledges}
+use Rattle.scp_ballot_rules.specs.scp_vote.specs.Board.{Seen}
+use Rattle.scp_ballot_rules.specs.scp_vote.specs.Licence.{with_own, Leads, Licensed}
+use Rattle.scp_ballot_rules.specs.scp_vote.proofs.Same.{follows_same}
+use Rattle.scp_ballot_rules.specs.scp_vote.specs.inside.Chain.{IsSame, IsChain}
 use Rattle.scp_ballot.specs.Balloting.{KeepsOthers}
 use Rattle.scp_ballot.proofs.Heard.{apart}
 

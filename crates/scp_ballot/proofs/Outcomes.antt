@@ -3,19 +3,19 @@ use Rattle.std.proofs.Common.{◌≡◌, ◌≢◌, ◌+◌, ◌⊎◌, ◌↔�
 use Rattle.std.specs.Option.{ForSome, option_map}
 use Rattle.std.specs.BTreeMap.{is_at}
 use Rattle.std.proofs.Math.Path.{fun_ext}
-use Rattle.scp_types.specs.declared.ballot.Ballot.{Ballot}
-use Rattle.scp_types.specs.declared.names.Hash.{Hash}
-use Rattle.scp_types.specs.declared.names.NodeId.{NodeId}
-use Rattle.scp_quorum.specs.NodeSet.{node_cmp}
-use Rattle.scp_quorum.specs.QuorumTree.{QuorumTree}
-use Rattle.scp_envelope.specs.Sane.{AreApart, IsSane}
-use Rattle.scp_envelope.specs.Newer.{ArePledgesNewer}
-use Rattle.scp_envelope.specs.declared.statement.Pledges.{Pledges}
-use Rattle.scp_envelope.specs.declared.statement.Statement.{Statement}
-use Rattle.scp_envelope.specs.declared.statement.Envelope.{Envelope}
-use Rattle.scp_vote.specs.Board.{Seen, KeepsOwn}
-use Rattle.scp_vote.specs.Licence.{with_own}
-use Rattle.scp_vote.proofs.Chain.{same_at}
+use Rattle.scp_ballot_rules.specs.scp_types.specs.declared.ballot.Ballot.{Ballot}
+use Rattle.scp_ballot_rules.specs.scp_types.specs.declared.names.Hash.{Hash}
+use Rattle.scp_ballot_rules.specs.scp_types.specs.declared.names.NodeId.{NodeId}
+use Rattle.scp_ballot_rules.specs.scp_quorum.specs.NodeSet.{node_cmp}
+use Rattle.scp_ballot_rules.specs.scp_quorum.specs.QuorumTree.{QuorumTree}
+use Rattle.scp_ballot_rules.specs.scp_envelope.specs.Sane.{AreApart, IsSane}
+use Rattle.scp_ballot_rules.specs.scp_envelope.specs.Newer.{ArePledgesNewer}
+use Rattle.scp_ballot_rules.specs.scp_envelope.specs.declared.statement.Pledges.{Pledges}
+use Rattle.scp_ballot_rules.specs.scp_envelope.specs.declared.statement.Statement.{Statement}
+use Rattle.scp_ballot_rules.specs.scp_envelope.specs.declared.statement.Envelope.{Envelope}
+use Rattle.scp_ballot_rules.specs.scp_vote.specs.Board.{Seen, KeepsOwn}
+use Rattle.scp_ballot_rules.specs.scp_vote.specs.Licence.{with_own}
+use Rattle.scp_ballot_rules.specs.scp_vote.proofs.Chain.{same_at}
 use Rattle.scp_ballot_rules.specs.declared.state.State.{State}
 use Rattle.scp_ballot_rules.specs.declared.state.Phase.{Phase}
 use Rattle.scp_ballot_rules.specs.declared.state.Phase.TheVariants.{Prepare, Confirm, Externalize}

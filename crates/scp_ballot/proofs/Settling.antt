@@ -1,14 +1,14 @@
 -- The machine settles: each rule gives one link of the chain, and the state stays ready.
 use Rattle.std.proofs.Common.{◌≡◌, ◌≢◌, ◌≤◌, ℕ, List, Option, Some, None, IsSomeAnd, refl, sym, ◌∙◌, ap, subst, inl, inr, arith}
-use Rattle.scp_types.specs.declared.names.Hash.{Hash}
-use Rattle.scp_vote.specs.declared.claim.Claim.TheVariants.{Committed}
-use Rattle.scp_vote.specs.declared.claim.Support.TheVariants.{Accepts}
-use Rattle.scp_vote.specs.Claims.{Stands}
-use Rattle.scp_vote.specs.Board.{Seen, Puts, Confirmed, KeepsOwn}
-use Rattle.scp_vote.specs.Licence.{Follows}
-use Rattle.scp_vote.proofs.Chain.{chain_start, chain_more, own_new}
-use Rattle.scp_vote.specs.inside.Chain.{IsChain}
-use Rattle.scp_envelope.specs.declared.statement.Pledges.{Pledges}
+use Rattle.scp_ballot_rules.specs.scp_types.specs.declared.names.Hash.{Hash}
+use Rattle.scp_ballot_rules.specs.scp_vote.specs.declared.claim.Claim.TheVariants.{Committed}
+use Rattle.scp_ballot_rules.specs.scp_vote.specs.declared.claim.Support.TheVariants.{Accepts}
+use Rattle.scp_ballot_rules.specs.scp_vote.specs.Claims.{Stands}
+use Rattle.scp_ballot_rules.specs.scp_vote.specs.Board.{Seen, Puts, Confirmed, KeepsOwn}
+use Rattle.scp_ballot_rules.specs.scp_vote.specs.Licence.{Follows}
+use Rattle.scp_ballot_rules.specs.scp_vote.proofs.Chain.{chain_start, chain_more, own_new}
+use Rattle.scp_ballot_rules.specs.scp_vote.specs.inside.Chain.{IsChain}
+use Rattle.scp_ballot_rules.specs.scp_envelope.specs.declared.statement.Pledges.{Pledges}
 use Rattle.scp_ballot_rules.specs.declared.state.State.{State}
 use Rattle.scp_ballot_rules.specs.declared.state.Phase.{Phase}
 use Rattle.scp_ballot_rules.specs.declared.state.Phase.TheVariants.{Prepare, Confirm, Externalize}

@@ -1,11 +1,11 @@
 -- What an input comes to, exactly (the SCP draft, in this project's profile).
 use Rattle.std.specs.Prelude.{◌≡◌, ◌≢◌, ◌⊎◌, ◌↔◌, List, ℕ, Option, None, IsSome}
 use Rattle.std.specs.Option.{ForSome}
-use Rattle.scp_quorum.specs.QuorumTree.{QuorumTree}
-use Rattle.scp_envelope.specs.Newer.{ArePledgesNewer}
-use Rattle.scp_envelope.specs.declared.statement.Pledges.{Pledges}
-use Rattle.scp_envelope.specs.declared.statement.Envelope.{Envelope}
-use Rattle.scp_vote.specs.Board.{Seen, PutsCounted}
+use Rattle.scp_ballot_rules.specs.scp_quorum.specs.QuorumTree.{QuorumTree}
+use Rattle.scp_ballot_rules.specs.scp_envelope.specs.Newer.{ArePledgesNewer}
+use Rattle.scp_ballot_rules.specs.scp_envelope.specs.declared.statement.Pledges.{Pledges}
+use Rattle.scp_ballot_rules.specs.scp_envelope.specs.declared.statement.Envelope.{Envelope}
+use Rattle.scp_ballot_rules.specs.scp_vote.specs.Board.{Seen, PutsCounted}
 use Rattle.scp_ballot_rules.specs.declared.state.State.{State}
 use Rattle.scp_ballot_rules.specs.declared.state.Phase.TheVariants.{Prepare}
 use Rattle.scp_ballot_rules.specs.Own.{own_of, IsBlank, StandsFor}

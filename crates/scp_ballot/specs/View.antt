@@ -1,8 +1,8 @@
 -- What clients see of a balloter.
 use Rattle.std.specs.Prelude.{ℕ, List, Bool, Option}
-use Rattle.scp_types.specs.declared.names.Hash.{Hash}
-use Rattle.scp_envelope.specs.declared.statement.Pledges.{Pledges}
-use Rattle.scp_vote.specs.declared.board.Board.{Board}
+use Rattle.scp_ballot_rules.specs.scp_types.specs.declared.names.Hash.{Hash}
+use Rattle.scp_ballot_rules.specs.scp_envelope.specs.declared.statement.Pledges.{Pledges}
+use Rattle.scp_ballot_rules.specs.scp_vote.specs.declared.board.Board.{Board}
 use Rattle.scp_ballot_rules.specs.declared.state.State.{State}
 
 -- The slot, the local set's hash, the board, the state of the ballots, the composite that is kept, the statement that was

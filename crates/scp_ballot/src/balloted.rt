@@ -1,6 +1,6 @@
 //! What an input gives.
-use scp_envelope::SharedEnvelope;
-use scp_types::{NodeId, Value};
+use scp_ballot_rules::below::envelope::SharedEnvelope;
+use scp_ballot_rules::below::types::{NodeId, Value};
 use std::collections::BTreeSet;
 
 /// What one input of a balloter gives.

@@ -4,10 +4,10 @@ ghost use Rattle.std.specs.Option.{option_map};
 
 use crate::balloted::Balloted;
 use crate::machine::Machine;
-use scp_envelope::{SharedEnvelope, Statement};
-use scp_quorum::SaneSet;
-use scp_types::{Fault, NodeId, Slot, Value};
-use scp_vote::Board;
+use scp_ballot_rules::below::envelope::{SharedEnvelope, Statement};
+use scp_ballot_rules::below::quorum::SaneSet;
+use scp_ballot_rules::below::types::{Fault, NodeId, Slot, Value};
+use scp_ballot_rules::below::vote::Board;
 use std::alloc::Global;
 use std::marker::Model;
 use std::sync::Arc;
@@ -26,7 +26,7 @@ impl Model for Balloter {
     ghost Value = { BalloterView };
 
     ghost use Rattle.std.specs.Coded.{codes};
-    ghost use Rattle.scp_vote.specs.contracts.board.Board as board;
+    ghost use Rattle.scp_ballot_rules.specs.scp_vote.specs.contracts.board.Board as board;
     ghost use Rattle.scp_ballot_rules.specs.contracts.state.State as state;
 
     ghost coded = { Prim.hlevel (codes, board.the_row.coded, state.the_row.coded) };

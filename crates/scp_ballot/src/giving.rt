@@ -1,26 +1,26 @@
 //! What the machine gives after an input: the statement to emit, and the decision.
 ghost use Rattle.std.specs.Prelude.{◌≡◌, ◌≢◌, ◌⊎◌, ◌↔◌, [], Option, Some, None, IsSome, IsSomeAnd, IsTrue, IfOk, IfSome, IfNone, OnOk, IsOkUnless};
 ghost use Rattle.std.specs.Option.{ForSome};
-ghost use Rattle.scp_envelope.specs.Sane.{IsSane};
-ghost use Rattle.scp_envelope.specs.Newer.{IsNewer};
-ghost use Rattle.scp_envelope.specs.declared.statement.Statement.{Statement};
+ghost use Rattle.scp_ballot_rules.specs.scp_envelope.specs.Sane.{IsSane};
+ghost use Rattle.scp_ballot_rules.specs.scp_envelope.specs.Newer.{IsNewer};
+ghost use Rattle.scp_ballot_rules.specs.scp_envelope.specs.declared.statement.Statement.{Statement};
 ghost use Rattle.scp_ballot_rules.specs.Ready.{IsReady};
 ghost use Rattle.scp_ballot_rules.specs.Own.{counter_of};
 ghost use Rattle.scp_ballot_rules.specs.declared.state.Phase.TheVariants.{Externalize};
 ghost use Rattle.scp_ballot_rules.specs.inside.Rules.{IsChange};
 ghost use Rattle.scp_ballot_rules.specs.Owed.{OwesNothing};
-ghost use Rattle.scp_quorum.specs.NodeSet.{is_in};
-ghost use Rattle.scp_vote.specs.Board.{Certificate, Confirmed};
-ghost use Rattle.scp_vote.specs.declared.claim.Claim.TheVariants.{Committed};
+ghost use Rattle.scp_ballot_rules.specs.scp_quorum.specs.NodeSet.{is_in};
+ghost use Rattle.scp_ballot_rules.specs.scp_vote.specs.Board.{Certificate, Confirmed};
+ghost use Rattle.scp_ballot_rules.specs.scp_vote.specs.declared.claim.Claim.TheVariants.{Committed};
 ghost use Rattle.scp_ballot_rules.specs.Told.{ballots_on};
 ghost use Rattle.scp_ballot.specs.inside.Machine.{IsAtRest, IsSettled, IsOwnStatement, IsConfirmedAt};
 
 use crate::balloted::{Balloted, Certified};
 use crate::machine::{Machine, unsigned};
+use scp_ballot_rules::below::envelope::{SharedEnvelope, SharedStatement, Statement, newer};
+use scp_ballot_rules::below::types::{Ballot, Fault, NodeId, SharedValue};
+use scp_ballot_rules::below::vote::{Board, Claim};
 use scp_ballot_rules::{Phase, State, counter};
-use scp_envelope::{SharedEnvelope, SharedStatement, Statement, newer};
-use scp_types::{Ballot, Fault, NodeId, SharedValue};
-use scp_vote::{Board, Claim};
 use std::collections::BTreeSet;
 
 /// Whether the statement is newer than the one emitted before, if there was one. That one is kept for this test, which

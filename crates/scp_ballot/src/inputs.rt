@@ -7,19 +7,19 @@ ghost use Rattle.scp_ballot_rules.specs.Steps.{Answers};
 ghost use Rattle.scp_ballot_rules.specs.Inputs.{Time};
 ghost use Rattle.scp_ballot_rules.specs.Told.{ballots_on};
 ghost use Rattle.scp_ballot_rules.specs.declared.state.Phase.TheVariants.{Prepare};
-ghost use Rattle.scp_vote.specs.Board.{kind_of_pledges};
-ghost use Rattle.scp_vote.specs.declared.claim.StatementKind.TheVariants.{Balloting};
+ghost use Rattle.scp_ballot_rules.specs.scp_vote.specs.Board.{kind_of_pledges};
+ghost use Rattle.scp_ballot_rules.specs.scp_vote.specs.declared.claim.StatementKind.TheVariants.{Balloting};
 ghost use Rattle.scp_ballot.specs.inside.Machine.{IsAtRest};
 ghost use Rattle.scp_ballot.specs.inside.Inputs.{Times, CannotRaise};
 
 use crate::balloted::Balloted;
 use crate::machine::Machine;
 use crate::raise::{raise_confirming, raise_preparing};
+use scp_ballot_rules::below::envelope::{Envelope, SharedEnvelope};
+use scp_ballot_rules::below::quorum::SaneSet;
+use scp_ballot_rules::below::types::{Ballot, Fault, SharedValue, Value};
+use scp_ballot_rules::below::vote::{StatementKind, kind_of_pledges};
 use scp_ballot_rules::{Phase, State, counter, me_of, put_ballot};
-use scp_envelope::{Envelope, SharedEnvelope};
-use scp_quorum::SaneSet;
-use scp_types::{Ballot, Fault, SharedValue, Value};
-use scp_vote::{StatementKind, kind_of_pledges};
 use std::sync::Arc;
 
 /// The current ballot; if there is none, the first one, of this value.

@@ -15,6 +15,7 @@
 
 mod balloted;
 mod balloter;
+pub mod below;
 mod giving;
 mod inputs;
 mod machine;

@@ -1,8 +1,8 @@
 //! A node's board, the state of its ballots, and the loop over the rules.
 ghost use Rattle.std.specs.Prelude.{◌≡◌, ◌≢◌, ◌⊎◌, ◌↔◌, ◌<◌, [], Option, Some, None, IsSome, IsSomeAnd, IfOk, IfSome, IfNone, OnOk, IsOkUnless, false, is_some};
 ghost use Rattle.std.specs.Option.{ForSome, option_map};
-ghost use Rattle.scp_vote.specs.Licence.{Licensed};
-ghost use Rattle.scp_vote.specs.Board.{IsNewBoard};
+ghost use Rattle.scp_ballot_rules.specs.scp_vote.specs.Licence.{Licensed};
+ghost use Rattle.scp_ballot_rules.specs.scp_vote.specs.Board.{IsNewBoard};
 ghost use Rattle.scp_ballot_rules.specs.inside.Rules.{IsChange};
 ghost use Rattle.scp_ballot_rules.specs.Ready.{IsReady};
 ghost use Rattle.scp_ballot_rules.specs.Owed.{OwesNothing};
@@ -10,11 +10,13 @@ ghost use Rattle.scp_ballot_rules.specs.Told.{ballots_on};
 ghost use Rattle.scp_ballot.specs.inside.Exactly.{ComesTo};
 
 use crate::next::next;
+use scp_ballot_rules::below::envelope::{
+    Envelope, SharedEnvelope, SharedStatement, Signature, Statement,
+};
+use scp_ballot_rules::below::quorum::SaneSet;
+use scp_ballot_rules::below::types::{Fault, Hash, NodeId, Slot};
+use scp_ballot_rules::below::vote::Board;
 use scp_ballot_rules::{State, local_of, me_of, new_board, pledges_of, put_ballot};
-use scp_envelope::{Envelope, SharedEnvelope, SharedStatement, Signature, Statement};
-use scp_quorum::SaneSet;
-use scp_types::{Fault, Hash, NodeId, Slot};
-use scp_vote::Board;
 use std::alloc::Global;
 use std::sync::Arc;
 

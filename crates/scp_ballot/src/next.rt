@@ -17,13 +17,13 @@ ghost use Rattle.scp_ballot_rules.specs.Steps.{Answers, OrElse, Step};
 use crate::raise::{catch_up, catch_up_more};
 use scp_ballot_rules::accept_commit::{accept_commit, accept_higher};
 use scp_ballot_rules::accept_prepared::{accept_more, accept_prepared};
+use scp_ballot_rules::below::types::Fault;
+use scp_ballot_rules::below::vote::Board;
 use scp_ballot_rules::boundaries::boundaries;
 use scp_ballot_rules::candidates::candidates;
 use scp_ballot_rules::confirm_commit::confirm_commit;
 use scp_ballot_rules::confirm_prepared::confirm_prepared;
 use scp_ballot_rules::{Phase, State};
-use scp_types::Fault;
-use scp_vote::Board;
 use std::alloc::Global;
 
 /// Rules 1 and 2, in the phase Prepare.

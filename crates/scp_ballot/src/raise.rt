@@ -1,8 +1,8 @@
 //! Rule 5: a higher counter if the other nodes are ahead.
 ghost use Rattle.std.specs.Prelude.{◌≡◌, ◌≢◌, ◌<◌, ◌≤◌, ◌⊎◌, ℕ, IsSomeAnd, ◌↔◌, None, Some, IsSome, IsTrue, IfOk, IfSome, IfNone, IsOkUnless};
 ghost use Rattle.std.specs.Option.{ForSome};
-ghost use Rattle.scp_types.specs.declared.names.NodeId.{NodeId};
-ghost use Rattle.scp_quorum.specs.NodeSet.{is_in};
+ghost use Rattle.scp_ballot_rules.specs.scp_types.specs.declared.names.NodeId.{NodeId};
+ghost use Rattle.scp_ballot_rules.specs.scp_quorum.specs.NodeSet.{is_in};
 ghost use Rattle.scp_ballot_rules.specs.Own.{counter_of};
 ghost use Rattle.scp_ballot_rules.specs.Ready.{HasValue};
 ghost use Rattle.scp_ballot_rules.specs.inside.Rules.{Raises, CatchesUp, RaisesMore};
@@ -16,10 +16,10 @@ ghost use Rattle.scp_ballot_rules.specs.RaiseCounter.{IsLeastFree, Raised, Raise
 ghost use Rattle.scp_ballot_rules.specs.Steps.{Answers};
 ghost use Rattle.scp_ballot_rules.specs.declared.state.Phase.TheVariants.{Prepare, Confirm};
 
+use scp_ballot_rules::below::quorum::blocked;
+use scp_ballot_rules::below::types::{Ballot, Fault, NodeId, SharedValue};
+use scp_ballot_rules::below::vote::{Board, Entry, StatementKind};
 use scp_ballot_rules::{State, copy_some, counter, counter_of_pledges, local_set, me_of};
-use scp_quorum::blocked;
-use scp_types::{Ballot, Fault, NodeId, SharedValue};
-use scp_vote::{Board, Entry, StatementKind};
 use std::alloc::{AllocError, Global};
 use std::collections::BTreeSet;
 

@@ -1,6 +1,6 @@
 -- Ballots are added to a list.
 use Rattle.std.proofs.Common.{◌≡◌, ◌≢◌, ℕ, List, Option, Some, None, sym, ◌∙◌, ap, ◌⊎◌, inl, inr}
-use Rattle.scp_types.specs.declared.ballot.Ballot.{Ballot}
+use Rattle.scp_vote.specs.scp_types.specs.declared.ballot.Ballot.{Ballot}
 use Rattle.scp_ballot_rules.specs.inside.Finding.{Adds}
 
 module _ (P Q : Ballot → Type 0) where

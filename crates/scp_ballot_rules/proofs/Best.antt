@@ -3,8 +3,8 @@ use Rattle.std.proofs.Common.{◌≡◌, ◌≢◌, ◌<◌, ◌≤◌, ◌+◌,
 use Rattle.std.specs.Option.{ForSome}
 use Rattle.std.proofs.lemmas.List.{get_or_default}
 use Rattle.std.proofs.lemmas.Bool.{cases_order}
-use Rattle.scp_types.specs.declared.ballot.Ballot.{Ballot}
-use Rattle.scp_envelope.specs.Ballots.{IsLess}
+use Rattle.scp_vote.specs.scp_types.specs.declared.ballot.Ballot.{Ballot}
+use Rattle.scp_vote.specs.scp_envelope.specs.Ballots.{IsLess}
 use Rattle.scp_ballot_rules.specs.Order.{IsAbove}
 use Rattle.scp_ballot_rules.proofs.Options.{some_of, some_and, none_some, some_same}
 use Rattle.scp_ballot_rules.proofs.Order.{less_trans, less_irrefl}

@@ -3,8 +3,8 @@ use Rattle.std.proofs.Common.{◌≡◌, ◌≢◌, ◌≤◌, ◌<◌, ℕ, Lis
 use Rattle.std.specs.Option.{ForSome}
 use Rattle.std.specs.declared.cmp.Ordering.TheVariants.{Less}
 use Rattle.std.proofs.lemmas.Bool.{cases_order}
-use Rattle.scp_types.specs.declared.ballot.Ballot.{Ballot}
-use Rattle.scp_envelope.specs.Ballots.{IsLess, value_cmp}
+use Rattle.scp_vote.specs.scp_types.specs.declared.ballot.Ballot.{Ballot}
+use Rattle.scp_vote.specs.scp_envelope.specs.Ballots.{IsLess, value_cmp}
 use Rattle.scp_vote.specs.declared.claim.Claim.TheVariants.{Committed}
 use Rattle.scp_vote.specs.Board.{Seen, Accepted, Confirmed}
 use Rattle.scp_ballot_rules.specs.declared.state.State.{State}

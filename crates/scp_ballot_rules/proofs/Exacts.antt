@@ -6,9 +6,9 @@ use Rattle.std.specs.declared.cmp.Ordering.{Ordering}
 use Rattle.std.specs.declared.cmp.Ordering.TheVariants.{Less, Equal, Greater}
 use Rattle.std.proofs.lemmas.Cmp.{nat_list_cmp_total}
 use Rattle.std.proofs.lemmas.Map.Lookups.{exact_bytes}
-use Rattle.scp_types.specs.declared.ballot.Ballot.{Ballot}
-use Rattle.scp_types.specs.declared.names.Hash.{Hash}
-use Rattle.scp_envelope.specs.Ballots.{IsLess, value_cmp}
+use Rattle.scp_vote.specs.scp_types.specs.declared.ballot.Ballot.{Ballot}
+use Rattle.scp_vote.specs.scp_types.specs.declared.names.Hash.{Hash}
+use Rattle.scp_vote.specs.scp_envelope.specs.Ballots.{IsLess, value_cmp}
 use Rattle.scp_vote.specs.declared.claim.Claim.{Claim}
 use Rattle.scp_vote.specs.declared.claim.Claim.TheVariants.{Committed}
 use Rattle.scp_vote.specs.Board.{Seen, Accepted, Confirmed}

@@ -4,8 +4,8 @@ use Rattle.std.specs.Option.{ForSome}
 use Rattle.std.specs.declared.cmp.Ordering.TheVariants.{Less, Equal}
 use Rattle.std.proofs.lemmas.Bool.Decides.{nat_tests}
 use Rattle.std.proofs.lemmas.Cmp.{nat_list_cmp_total, tied_itself}
-use Rattle.scp_types.specs.declared.ballot.Ballot.{Ballot}
-use Rattle.scp_envelope.specs.Ballots.{value_cmp}
+use Rattle.scp_vote.specs.scp_types.specs.declared.ballot.Ballot.{Ballot}
+use Rattle.scp_vote.specs.scp_envelope.specs.Ballots.{value_cmp}
 use Rattle.scp_ballot_rules.specs.Greatest.{ballot_at}
 use Rattle.scp_ballot_rules.proofs.Options.{none_some, some_same}
 use Rattle.scp_ballot_rules.specs.inside.Finding.{Precedes, GoesBefore, Leads, IsFirst, Lowers, IsLeastOf}

@@ -1,12 +1,12 @@
 -- The statement of the next state may follow the one of the old state.
 use Rattle.std.proofs.Common.{◌≡◌, ◌≢◌, ◌≤◌, ◌<◌, ℕ, List, Option, Some, None, IsSomeAnd, refl, sym, ◌∙◌, ap, subst, ◌⊎◌, inl, inr, arith}
 use Rattle.std.specs.Option.{ForSome}
-use Rattle.scp_types.specs.declared.ballot.Ballot.{Ballot}
-use Rattle.scp_types.specs.declared.names.Hash.{Hash}
-use Rattle.scp_envelope.specs.declared.statement.Pledges.{Pledges}
-use Rattle.scp_envelope.specs.declared.statement.Pledges.TheVariants.{Prepare as Preparing, Confirm as Confirming, Externalize as Externalizing}
-use Rattle.scp_envelope.specs.Ballots.{IsLess}
-use Rattle.scp_envelope.specs.Claims.{IsCovered, AcceptsPrepare}
+use Rattle.scp_vote.specs.scp_types.specs.declared.ballot.Ballot.{Ballot}
+use Rattle.scp_vote.specs.scp_types.specs.declared.names.Hash.{Hash}
+use Rattle.scp_vote.specs.scp_envelope.specs.declared.statement.Pledges.{Pledges}
+use Rattle.scp_vote.specs.scp_envelope.specs.declared.statement.Pledges.TheVariants.{Prepare as Preparing, Confirm as Confirming, Externalize as Externalizing}
+use Rattle.scp_vote.specs.scp_envelope.specs.Ballots.{IsLess}
+use Rattle.scp_vote.specs.scp_envelope.specs.Claims.{IsCovered, AcceptsPrepare}
 use Rattle.scp_vote.specs.declared.claim.Claim.{Claim}
 use Rattle.scp_vote.specs.declared.claim.Claim.TheVariants.{Prepared, Committed}
 use Rattle.scp_vote.specs.Board.{Seen, Accepted, Confirmed}

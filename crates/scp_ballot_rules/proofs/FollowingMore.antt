@@ -1,11 +1,11 @@
 -- Links in the phase Confirm, and of each rule.
 use Rattle.std.proofs.Common.{◌≡◌, ◌≢◌, ◌≤◌, ◌<◌, ℕ, List, Option, Some, None, IsSomeAnd, refl, sym, ◌∙◌, ap, subst, ◌⊎◌, inl, inr, arith}
 use Rattle.std.specs.Option.{ForSome}
-use Rattle.scp_types.specs.declared.ballot.Ballot.{Ballot}
-use Rattle.scp_types.specs.declared.names.Hash.{Hash}
-use Rattle.scp_envelope.specs.declared.statement.Pledges.{Pledges}
-use Rattle.scp_envelope.specs.declared.statement.Pledges.TheVariants.{Prepare as Preparing, Confirm as Confirming, Externalize as Externalizing}
-use Rattle.scp_envelope.specs.Claims.{AcceptsPrepare, AcceptsCommit as AcceptsOne}
+use Rattle.scp_vote.specs.scp_types.specs.declared.ballot.Ballot.{Ballot}
+use Rattle.scp_vote.specs.scp_types.specs.declared.names.Hash.{Hash}
+use Rattle.scp_vote.specs.scp_envelope.specs.declared.statement.Pledges.{Pledges}
+use Rattle.scp_vote.specs.scp_envelope.specs.declared.statement.Pledges.TheVariants.{Prepare as Preparing, Confirm as Confirming, Externalize as Externalizing}
+use Rattle.scp_vote.specs.scp_envelope.specs.Claims.{AcceptsPrepare, AcceptsCommit as AcceptsOne}
 use Rattle.scp_vote.specs.declared.claim.Claim.TheVariants.{Prepared, Committed}
 use Rattle.scp_vote.specs.Claims.{AcceptsCommits}
 use Rattle.scp_vote.specs.Board.{Seen, Accepted, Confirmed}

@@ -6,10 +6,10 @@ use Rattle.std.specs.declared.cmp.Ordering.TheVariants.{Less, Equal, Greater}
 use Rattle.std.proofs.lemmas.Bool.Decides.{nat_tests}
 use Rattle.std.proofs.lemmas.Cmp.{nat_list_cmp_total, tied_itself}
 use Rattle.std.proofs.lemmas.Map.Lookups.{exact_bytes}
-use Rattle.scp_types.specs.declared.ballot.Ballot.{Ballot}
-use Rattle.scp_envelope.specs.Ballots.{ballot_cmp, value_cmp, IsLess, IsAtMost}
-use Rattle.scp_envelope.specs.Claims.{IsCovered}
-use Rattle.scp_envelope.proofs.Ballots.{ballot_cmp_total, at_most}
+use Rattle.scp_vote.specs.scp_types.specs.declared.ballot.Ballot.{Ballot}
+use Rattle.scp_vote.specs.scp_envelope.specs.Ballots.{ballot_cmp, value_cmp, IsLess, IsAtMost}
+use Rattle.scp_vote.specs.scp_envelope.specs.Claims.{IsCovered}
+use Rattle.scp_vote.specs.scp_envelope.proofs.Ballots.{ballot_cmp_total, at_most}
 use Rattle.scp_ballot_rules.specs.Order.{AtMost, FitsUnder}
 
 pub less_trans : (x y z : Ballot) → IsLess x y → IsLess y z → IsLess x z

@@ -1,7 +1,7 @@
 -- The highest accepted ballot below another.
 use Rattle.std.proofs.Common.{◌≡◌, List, Option, Some, None, IsSomeAnd, Contains, refl, sym, ◌∙◌, ap, subst, ◌⊎◌, inl, inr}
-use Rattle.scp_types.specs.declared.ballot.Ballot.{Ballot}
-use Rattle.scp_envelope.specs.Ballots.{IsLess}
+use Rattle.scp_vote.specs.scp_types.specs.declared.ballot.Ballot.{Ballot}
+use Rattle.scp_vote.specs.scp_envelope.specs.Ballots.{IsLess}
 use Rattle.scp_vote.specs.declared.claim.Claim.TheVariants.{Prepared}
 use Rattle.scp_vote.specs.Board.{Seen, Accepted}
 use Rattle.scp_ballot_rules.specs.declared.state.State.{State}

@@ -1,8 +1,8 @@
 -- One rule leaves the phase and the counter, or raises them.
 use Rattle.std.proofs.Common.{◌≡◌, ◌≢◌, ◌<◌, ◌≤◌, ℕ, Option, Some, None, IsSomeAnd, refl, sym, ◌∙◌, ap, ◌⊎◌, inl, inr, arith}
 use Rattle.std.specs.Option.{ForSome}
-use Rattle.scp_types.specs.declared.ballot.Ballot.{Ballot}
-use Rattle.scp_envelope.specs.Ballots.{IsLess}
+use Rattle.scp_vote.specs.scp_types.specs.declared.ballot.Ballot.{Ballot}
+use Rattle.scp_vote.specs.scp_envelope.specs.Ballots.{IsLess}
 use Rattle.scp_vote.specs.declared.claim.Claim.TheVariants.{Prepared}
 use Rattle.scp_vote.specs.Board.{Seen, Confirmed}
 use Rattle.scp_ballot_rules.specs.declared.state.State.{State}

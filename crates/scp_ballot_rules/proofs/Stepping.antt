@@ -1,8 +1,8 @@
 -- What each rule builds is one of its steps; if it finds nothing, the state is at rest.
 use Rattle.std.proofs.Common.{Bool, true, false, IsTrue, IfSome, ◌≡◌, ◌≢◌, ◌↔◌, List, Option, Some, None, IsSomeAnd, Contains, refl, sym, ◌∙◌, ap, subst, ◌⊎◌, inl, inr}
 use Rattle.std.specs.Option.{ForSome}
-use Rattle.scp_types.specs.declared.ballot.Ballot.{Ballot}
-use Rattle.scp_envelope.specs.Ballots.{IsLess}
+use Rattle.scp_vote.specs.scp_types.specs.declared.ballot.Ballot.{Ballot}
+use Rattle.scp_vote.specs.scp_envelope.specs.Ballots.{IsLess}
 use Rattle.scp_vote.specs.declared.claim.Claim.TheVariants.{Prepared}
 use Rattle.scp_vote.specs.Board.{Seen, Accepted, Confirmed}
 use Rattle.scp_ballot_rules.specs.declared.state.State.{State}

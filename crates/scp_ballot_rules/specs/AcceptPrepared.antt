@@ -1,6 +1,6 @@
 -- Rule 1: accept a ballot as prepared (the SCP draft, in this project's profile). What it makes of the state over a board.
 use Rattle.std.specs.Prelude.{◌≡◌, ◌⊎◌, Option, Some, None, IsSomeAnd}
-use Rattle.scp_types.specs.declared.ballot.Ballot.{Ballot}
+use Rattle.scp_vote.specs.scp_types.specs.declared.ballot.Ballot.{Ballot}
 use Rattle.scp_vote.specs.declared.claim.Claim.TheVariants.{Prepared}
 use Rattle.scp_vote.specs.Board.{Seen, Accepted}
 use Rattle.scp_ballot_rules.specs.declared.state.State.{State}

@@ -1,6 +1,6 @@
 -- What is looked for among the ballots and boundaries that statements on the board name.
 use Rattle.std.specs.Prelude.{◌↔◌, List, Contains}
-use Rattle.scp_types.specs.declared.ballot.Ballot.{Ballot}
+use Rattle.scp_vote.specs.scp_types.specs.declared.ballot.Ballot.{Ballot}
 use Rattle.scp_vote.specs.Board.{Seen}
 use Rattle.scp_ballot_rules.specs.Owed.{IsCandidate, IsBoundary}
 

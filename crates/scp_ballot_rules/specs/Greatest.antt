@@ -1,7 +1,7 @@
 -- The greatest of some ballots, and what becomes of a part of a state.
 use Rattle.std.specs.Prelude.{◌≡◌, ◌⊎◌, ℕ, List, Option, IsSomeAnd}
 use Rattle.std.specs.Option.{ForSome}
-use Rattle.scp_types.specs.declared.ballot.Ballot.{Ballot}
+use Rattle.scp_vote.specs.scp_types.specs.declared.ballot.Ballot.{Ballot}
 use Rattle.scp_ballot_rules.specs.Order.{AtMost}
 
 -- the greatest ballot for which P holds, or none if P holds for none

@@ -1,6 +1,6 @@
 -- What an input makes of the state, and what the rules then make of it (the SCP draft, in this project's profile).
 use Rattle.std.specs.Prelude.{◌≡◌, ◌≢◌, ◌+◌, ◌⊎◌, ℕ, List, Bool, Some, None}
-use Rattle.scp_types.specs.declared.names.Hash.{Hash}
+use Rattle.scp_vote.specs.scp_types.specs.declared.names.Hash.{Hash}
 use Rattle.scp_vote.specs.Board.{Seen}
 use Rattle.scp_ballot_rules.specs.declared.state.State.{State}
 use Rattle.scp_ballot_rules.specs.declared.state.Phase.{Phase}

@@ -1,6 +1,6 @@
 -- What follows from the definitions of the ballot protocol.
 use Rattle.std.specs.Prelude.{◌≡◌, ◌≢◌, ℕ, List, Bool}
-use Rattle.scp_types.specs.declared.names.Hash.{Hash}
+use Rattle.scp_vote.specs.scp_types.specs.declared.names.Hash.{Hash}
 use Rattle.scp_vote.specs.Board.{Seen}
 use Rattle.scp_vote.specs.Licence.{Follows}
 use Rattle.scp_ballot_rules.specs.declared.state.State.{State}

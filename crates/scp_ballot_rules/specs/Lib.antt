@@ -1,3 +1,7 @@
+pub use Rattle.scp_vote.specs.scp_types
+pub use Rattle.scp_vote.specs.scp_quorum
+pub use Rattle.scp_vote.specs.scp_envelope
+pub use Rattle.scp_vote
 pub mod Order
 pub mod Own
 pub mod Ready

@@ -1,7 +1,7 @@
 -- What holds of the state of a ballot machine each time its own statement is renewed.
 use Rattle.std.specs.Prelude.{◌≡◌, ◌≢◌, ◌≤◌, ◌⊎◌, Some, None, IsSome, IsSomeAnd}
 use Rattle.std.specs.Option.{ForSome}
-use Rattle.scp_types.specs.declared.ballot.Ballot.{Ballot}
+use Rattle.scp_vote.specs.scp_types.specs.declared.ballot.Ballot.{Ballot}
 use Rattle.scp_ballot_rules.specs.declared.state.State.{State}
 use Rattle.scp_ballot_rules.specs.declared.state.Phase.{Phase}
 use Rattle.scp_ballot_rules.specs.declared.state.Phase.TheVariants.{Prepare, Confirm, Externalize}

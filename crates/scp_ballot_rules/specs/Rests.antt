@@ -1,7 +1,7 @@
 -- What it means that no rule of the ballot machine changes its state.
 use Rattle.std.specs.Prelude.{◌<◌, ℕ, List, IsSomeAnd}
 use Rattle.std.specs.Option.{ForSome}
-use Rattle.scp_types.specs.declared.ballot.Ballot.{Ballot}
+use Rattle.scp_vote.specs.scp_types.specs.declared.ballot.Ballot.{Ballot}
 use Rattle.scp_vote.specs.declared.claim.Claim.TheVariants.{Prepared, Committed}
 use Rattle.scp_vote.specs.Board.{Seen, Accepted, Confirmed}
 use Rattle.scp_ballot_rules.specs.declared.state.State.{State}

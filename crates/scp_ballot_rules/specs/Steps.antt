@@ -1,6 +1,6 @@
 -- The rules in their order, and what they come to (this project's profile: the order, and at most 64 of them).
 use Rattle.std.specs.Prelude.{◌≡◌, ◌≢◌, ◌⊎◌, ℕ, zero, suc, Bool, true, false, Option, Some, None}
-use Rattle.scp_types.specs.declared.names.Hash.{Hash}
+use Rattle.scp_vote.specs.scp_types.specs.declared.names.Hash.{Hash}
 use Rattle.scp_vote.specs.Board.{Seen}
 use Rattle.scp_vote.specs.Licence.{with_own}
 use Rattle.scp_ballot_rules.specs.declared.state.State.{State}

@@ -1,7 +1,7 @@
 //! Rule 3: what is accepted as committed.
 ghost use Rattle.std.specs.Prelude.{◌≡◌, ◌≢◌, ◌<◌, ◌≤◌, ◌⊎◌, ◌↔◌, Contains, Some, None, Option, IsSomeAnd, IsTrue, IfOk, IfSome, IfNone, IsOkUnless};
 ghost use Rattle.std.specs.Option.{ForSome};
-ghost use Rattle.scp_types.specs.declared.ballot.Ballot.{Ballot};
+ghost use Rattle.scp_vote.specs.scp_types.specs.declared.ballot.Ballot.{Ballot};
 ghost use Rattle.scp_vote.specs.Board.{Accepted};
 ghost use Rattle.scp_ballot_rules.specs.Order.{AtMost};
 ghost use Rattle.scp_ballot_rules.specs.Ready.{IsConfirming};
@@ -21,8 +21,8 @@ use crate::finding::{Bound, is_less};
 use crate::range::{Range, reached_range};
 use crate::told::Stage;
 use crate::{Phase, State, copy_some, counter};
-use scp_types::{Ballot, Fault, SharedValue};
 use scp_vote::Board;
+use scp_vote::below::types::{Ballot, Fault, SharedValue};
 
 /// A copy of the ballot if it has the value.
 fn copy_of_value(ballot: &Option<Ballot>, value: &SharedValue) -> Result<Option<Ballot>, Fault>

@@ -1,7 +1,7 @@
 //! Rule 1: what is accepted as prepared.
 ghost use Rattle.std.specs.Prelude.{◌≡◌, ◌≢◌, ◌⊎◌, ◌↔◌, Contains, Some, None, Option, IsSomeAnd, IsTrue, IfOk, IfSome, IfNone, IsOkUnless};
 ghost use Rattle.std.specs.Option.{ForSome};
-ghost use Rattle.scp_types.specs.declared.ballot.Ballot.{Ballot};
+ghost use Rattle.scp_vote.specs.scp_types.specs.declared.ballot.Ballot.{Ballot};
 ghost use Rattle.scp_vote.specs.declared.claim.Claim.TheVariants.{Prepared};
 ghost use Rattle.scp_vote.specs.Board.{Accepted};
 ghost use Rattle.scp_ballot_rules.specs.Order.{IsAbove, IsOver, FitsUnder};
@@ -16,8 +16,8 @@ ghost use Rattle.scp_ballot_rules.specs.Steps.{Answers};
 use crate::finding::{Bound, greatest, is_above, is_over, is_same, is_within};
 use crate::told::Stage;
 use crate::{State, copy_some};
-use scp_types::{Ballot, Fault};
 use scp_vote::Board;
+use scp_vote::below::types::{Ballot, Fault};
 
 /// The ballot if it counts and is greater than the best so far, else the best so far.
 fn higher(

@@ -1,14 +1,14 @@
 //! The boundaries: the ends of the ranges of commit that statements on the board vote for or accept.
 ghost use Rattle.std.specs.Prelude.{◌≡◌, ◌≢◌, ◌⊎◌, ◌↔◌, Contains, Some, IsSomeAnd, IfOk, OnOk, IsOkUnless};
-ghost use Rattle.scp_types.specs.declared.ballot.Ballot.{Ballot};
+ghost use Rattle.scp_vote.specs.scp_types.specs.declared.ballot.Ballot.{Ballot};
 ghost use Rattle.scp_ballot_rules.specs.Owed.{Bounds};
 ghost use Rattle.scp_ballot_rules.specs.Told.{ballots_on};
 ghost use Rattle.scp_ballot_rules.specs.Finding.{AreBoundaries};
 ghost use Rattle.scp_ballot_rules.specs.inside.Finding.{Adds};
 
 use crate::candidates::add;
-use scp_envelope::{Pledges, Prepare};
-use scp_types::{Ballot, Fault, SharedValue};
+use scp_vote::below::envelope::{Pledges, Prepare};
+use scp_vote::below::types::{Ballot, Fault, SharedValue};
 use scp_vote::{Board, StatementKind};
 use std::alloc::Global;
 

@@ -1,13 +1,13 @@
 //! The candidate ballots: those that statements on the board name.
 ghost use Rattle.std.specs.Prelude.{◌≡◌, ◌≢◌, ◌⊎◌, ◌↔◌, IsTrue, Contains, Some, IsSomeAnd, IfOk, OnOk, IsOkUnless};
-ghost use Rattle.scp_types.specs.declared.ballot.Ballot.{Ballot};
+ghost use Rattle.scp_vote.specs.scp_types.specs.declared.ballot.Ballot.{Ballot};
 ghost use Rattle.scp_ballot_rules.specs.Owed.{Names};
 ghost use Rattle.scp_ballot_rules.specs.Told.{ballots_on};
 ghost use Rattle.scp_ballot_rules.specs.Finding.{AreCandidates};
 ghost use Rattle.scp_ballot_rules.specs.inside.Finding.{Adds};
 
-use scp_envelope::{Confirm, Externalize, Pledges, Prepare};
-use scp_types::{Ballot, Fault, SharedValue};
+use scp_vote::below::envelope::{Confirm, Externalize, Pledges, Prepare};
+use scp_vote::below::types::{Ballot, Fault, SharedValue};
 use scp_vote::{Board, StatementKind};
 use std::alloc::Global;
 

@@ -1,6 +1,6 @@
 //! Rule 4: what is confirmed as committed.
 ghost use Rattle.std.specs.Prelude.{◌≡◌, ◌≢◌, ◌<◌, ◌≤◌, ◌⊎◌, Contains, Some, None, Option, IsSomeAnd, IsTrue, IfOk, IfSome, IfNone, IsOkUnless};
-ghost use Rattle.scp_types.specs.declared.ballot.Ballot.{Ballot};
+ghost use Rattle.scp_vote.specs.scp_types.specs.declared.ballot.Ballot.{Ballot};
 ghost use Rattle.scp_vote.specs.declared.claim.Claim.TheVariants.{Committed};
 ghost use Rattle.scp_vote.specs.Board.{Confirmed};
 ghost use Rattle.scp_ballot_rules.specs.Rules.{ConfirmsCommit};
@@ -20,8 +20,8 @@ use crate::finding::Bound;
 use crate::range::{Range, reached_range};
 use crate::told::Stage;
 use crate::{Phase, State};
-use scp_types::{Ballot, Fault};
 use scp_vote::Board;
+use scp_vote::below::types::{Ballot, Fault};
 
 /// The state in the phase Externalize with this range.
 fn externalized(state: &State, range: Range) -> Result<State, Fault>

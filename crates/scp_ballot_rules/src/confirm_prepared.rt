@@ -1,7 +1,7 @@
 //! Rule 2: what is confirmed as prepared, and the vote to commit it.
 ghost use Rattle.std.specs.Prelude.{◌≡◌, ◌≢◌, ◌⊎◌, ◌↔◌, Contains, Some, None, Option, IsSomeAnd, IsTrue, IfOk, IfSome, IfNone, IsOkUnless};
 ghost use Rattle.std.specs.Option.{ForSome};
-ghost use Rattle.scp_types.specs.declared.ballot.Ballot.{Ballot};
+ghost use Rattle.scp_vote.specs.scp_types.specs.declared.ballot.Ballot.{Ballot};
 ghost use Rattle.scp_vote.specs.declared.claim.Claim.TheVariants.{Prepared};
 ghost use Rattle.scp_vote.specs.Board.{Confirmed};
 ghost use Rattle.scp_ballot_rules.specs.Order.{IsAbove, AtMost};
@@ -19,8 +19,8 @@ ghost use Rattle.scp_ballot_rules.specs.inside.Finding.{RevisesLow};
 use crate::finding::{Bound, greatest, is_less, is_over, is_same};
 use crate::told::Stage;
 use crate::{State, copy_some};
-use scp_types::{Ballot, Fault};
 use scp_vote::Board;
+use scp_vote::below::types::{Ballot, Fault};
 
 /// The greatest ballot that is confirmed as prepared, if it is greater than the one before.
 fn newly_confirmed(

@@ -1,9 +1,9 @@
 //! The greatest candidate ballot that has reached a stage of voting.
 ghost use Rattle.std.specs.Prelude.{◌≡◌, ◌⊎◌, ◌↔◌, Contains, Some, Option, IsSomeAnd, IsTrue, IfOk, IsOkUnless};
 ghost use Rattle.std.specs.Option.{ForSome};
-ghost use Rattle.scp_types.specs.declared.ballot.Ballot.{Ballot};
+ghost use Rattle.scp_vote.specs.scp_types.specs.declared.ballot.Ballot.{Ballot};
 ghost use Rattle.scp_vote.specs.declared.claim.Claim.TheVariants.{Prepared};
-ghost use Rattle.scp_envelope.specs.Ballots.{IsLess};
+ghost use Rattle.scp_vote.specs.scp_envelope.specs.Ballots.{IsLess};
 ghost use Rattle.scp_ballot_rules.specs.Order.{IsAbove, IsOver, FitsUnder};
 ghost use Rattle.scp_ballot_rules.specs.Told.{ballots_on};
 ghost use Rattle.scp_ballot_rules.specs.inside.Told.{Reached};
@@ -11,8 +11,8 @@ ghost use Rattle.scp_ballot_rules.specs.inside.Finding.{IsWithin, IsGreatest, Be
 
 use crate::copy_some;
 use crate::told::{Stage, reached_prepared};
-use scp_types::{Ballot, Fault, SharedValue};
 use scp_vote::Board;
+use scp_vote::below::types::{Ballot, Fault, SharedValue};
 
 /// Which ballots count.
 #[derive(Drop)]

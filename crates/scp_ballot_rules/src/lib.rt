@@ -8,6 +8,7 @@
 
 pub mod accept_commit;
 pub mod accept_prepared;
+pub mod below;
 pub mod boundaries;
 pub mod candidates;
 pub mod confirm_commit;

@@ -4,8 +4,8 @@ ghost use Rattle.scp_ballot_rules.specs.Own.{counter_of, or_zero, prepare_of, co
 ghost use Rattle.scp_ballot_rules.specs.Owed.{counter_in};
 
 use crate::state::{Phase, State};
-use scp_envelope::{Confirm, Externalize, Pledges, Prepare};
-use scp_types::{Ballot, Fault, Hash, SharedValue, Value};
+use scp_vote::below::envelope::{Confirm, Externalize, Pledges, Prepare};
+use scp_vote::below::types::{Ballot, Fault, Hash, SharedValue, Value};
 use std::alloc::Global;
 
 /// The ballot's counter; 0 if there is no ballot.

@@ -1,7 +1,7 @@
 //! The range of commit that has reached a stage of voting.
 ghost use Rattle.std.specs.Prelude.{◌≡◌, ◌≢◌, ◌<◌, ◌≤◌, ◌⊎◌, ◌↔◌, Contains, Some, None, Option, IsSomeAnd, IsTrue, IfOk, IfSome, IfNone, IsOkUnless};
 ghost use Rattle.std.specs.Option.{ForSome};
-ghost use Rattle.scp_types.specs.declared.ballot.Ballot.{Ballot};
+ghost use Rattle.scp_vote.specs.scp_types.specs.declared.ballot.Ballot.{Ballot};
 ghost use Rattle.scp_vote.specs.declared.claim.Claim.TheVariants.{Committed};
 ghost use Rattle.scp_ballot_rules.specs.Told.{ballots_on};
 ghost use Rattle.scp_ballot_rules.specs.inside.Told.{Reached};
@@ -9,8 +9,8 @@ ghost use Rattle.scp_ballot_rules.specs.inside.Finding.{IsWithin, IsReachedRange
 
 use crate::finding::{Bound, is_within};
 use crate::told::{Stage, reached_commit};
-use scp_types::{Ballot, Fault};
 use scp_vote::Board;
+use scp_vote::below::types::{Ballot, Fault};
 
 /// A range of commit: its ends have the same value.
 #[derive(Drop)]

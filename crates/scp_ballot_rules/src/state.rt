@@ -2,7 +2,7 @@
 ghost use Rattle.std.specs.Prelude.{◌≡◌, IfOk, IsOkUnless, None};
 
 use crate::own::{copy_some, share_value};
-use scp_types::{Ballot, Fault, SharedValue};
+use scp_vote::below::types::{Ballot, Fault, SharedValue};
 
 /// How far the ballots of a slot have come.
 #[derive(Clone, Copy, PartialEq, Eq)]

@@ -1,16 +1,16 @@
 //! What the board shows of ballots.
 ghost use Rattle.std.specs.Prelude.{◌≡◌, ◌↔◌, IsTrue, IfOk, OnOk, OnErr, IsOkUnless};
 ghost use Rattle.scp_vote.specs.Board.{kind_of, kind_of_pledges, PutsCounted, IsNewBoard, KeepsOwn};
-ghost use Rattle.scp_quorum.specs.Sane.{IsSane};
+ghost use Rattle.scp_vote.specs.scp_quorum.specs.Sane.{IsSane};
 ghost use Rattle.scp_vote.specs.Seen.{seen};
 ghost use Rattle.scp_vote.specs.declared.claim.StatementKind.TheVariants.{Balloting};
 ghost use Rattle.scp_vote.specs.declared.claim.Claim.TheVariants.{Prepared, Committed};
 ghost use Rattle.scp_ballot_rules.specs.Told.{ballots_on};
 ghost use Rattle.scp_ballot_rules.specs.inside.Told.{Reached};
 
-use scp_envelope::SharedEnvelope;
-use scp_quorum::{QuorumSet, SaneSet};
-use scp_types::{Ballot, Fault, NodeId, SharedValue};
+use scp_vote::below::envelope::SharedEnvelope;
+use scp_vote::below::quorum::{QuorumSet, SaneSet};
+use scp_vote::below::types::{Ballot, Fault, NodeId, SharedValue};
 use scp_vote::{Board, Claim};
 use std::alloc::Global;
 use std::sync::Arc;

@@ -1,6 +1,6 @@
 -- Texts as lines.
 use Rattle.std.proofs.Common.{◌≡◌, ◌≤◌, ◌<◌, ◌+◌, ◌-◌, ℕ, zero, suc, min, List, [], ◌∷◌, ◌++◌, Option, None, Some, length, take, drop, map, flat_map, refl, sym, ◌∙◌, ap, subst, arith, append_assoc}
-use Rattle.scp_device.specs.Device.{Loses}
+use Rattle.scp_live_log.specs.scp_device.specs.Device.{Loses}
 use Rattle.std.proofs.lemmas.List.{append-nil, map-append, take_min, length-take}
 use Rattle.std.proofs.lemmas.Grind.{flat_map-append}
 use Rattle.std.proofs.Math.Seq.{take-append-add}

@@ -1,2 +1,3 @@
+pub use Rattle.scp_live_log
 pub mod Lines
 pub mod inside

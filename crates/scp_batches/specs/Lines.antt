@@ -1,7 +1,7 @@
 -- The lines of an input, and what is given of them (this project's profile).
 use Rattle.std.specs.Prelude.{◌≡◌, ◌<◌, ◌+◌, ℕ, List, [], ◌∷◌, ◌++◌, length, take, map, flat_map, Option}
 use Rattle.std.specs.List.{AllByRecursion}
-use Rattle.scp_device.specs.Device.{Loses}
+use Rattle.scp_live_log.specs.scp_device.specs.Device.{Loses}
 use Rattle.scp_live_log.specs.Log.{IsLine}
 use Rattle.scp_batches.specs.declared.line.TheConstants.{LINE_LIMIT}
 

@@ -8,6 +8,7 @@
 //! - an input can be split into lines in only one way.
 #![tactic(auto)]
 
+pub mod below;
 mod laws;
 mod line;
 mod lines;

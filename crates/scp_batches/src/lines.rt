@@ -1,13 +1,13 @@
 //! The lines of an input, read in batches.
 ghost use Rattle.std.specs.Prelude.{◌≡◌, ◌≢◌, ◌≤◌, ◌<◌, ◌+◌, ◌⊎◌, ◌++◌, ◌∷◌, [], Some, length, take, drop, OnOk, IfOk, IfErr, IfSome, IfNone, IsErrOf};
 ghost use Rattle.scp_live_log.specs.Log.{IsLine};
-ghost use Rattle.scp_device.specs.Device.{HasEnded, Fails};
+ghost use Rattle.scp_live_log.specs.scp_device.specs.Device.{HasEnded, Fails};
 ghost use Rattle.scp_batches.specs.Lines.{front_of, Gives, GivesMore, IsRead};
 ghost use Rattle.scp_batches.specs.inside.Held.{IsHeld, EndsAt};
 
 use crate::line::{Line, add};
-use scp_device::ScriptIn;
-use scp_types::Fault;
+use scp_live_log::below::device::ScriptIn;
+use scp_live_log::below::types::Fault;
 use std::alloc::{AllocError, Global};
 use std::marker::Model;
 use std::mem;

@@ -1,7 +1,7 @@
 use crate::workload::Workload;
 use clap::error::ErrorKind;
 use clap::{Arg, ArgAction, Command, Error};
-use scp_types::Fault;
+use scp_slot::below::types::Fault;
 use std::alloc::{AllocError, Global};
 
 /// What the words of a command line ask for.

@@ -2,11 +2,11 @@ ghost use Rattle.std.specs.Prelude.{◌↔◌, IsTrue};
 ghost use Rattle.scp_slot.specs.Takes.{IsOfSlot};
 
 use crate::quorum::{node, set_of};
-use scp_driver::{Driver, KvDriver};
-use scp_envelope::SharedEnvelope;
-use scp_quorum::SaneSet;
+use scp_slot::below::driver::{Driver, KvDriver};
+use scp_slot::below::envelope::SharedEnvelope;
+use scp_slot::below::quorum::SaneSet;
+use scp_slot::below::types::{Fault, Slot, Value};
 use scp_slot::{Emitted, SlotInput, SlotMachine, SlotOutput};
-use scp_types::{Fault, Slot, Value};
 use std::alloc::{AllocError, Global};
 use std::collections::VecDeque;
 use std::marker::Model;

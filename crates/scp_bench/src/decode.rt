@@ -1,4 +1,4 @@
-use scp_types::Fault;
+use scp_slot::below::types::Fault;
 use scp_wire::{Message, decode};
 use std::alloc::{AllocError, Global};
 

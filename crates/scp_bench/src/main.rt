@@ -14,7 +14,7 @@ mod workload;
 
 use crate::asked::{Asked, read_words};
 use crate::workload::run_all;
-use scp_types::Fault;
+use scp_slot::below::types::Fault;
 use std::alloc::AllocError;
 use std::env;
 use std::io::ErrorKind;

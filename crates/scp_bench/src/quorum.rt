@@ -1,5 +1,5 @@
-use scp_quorum::{QuorumSet, SaneSet, greatest_quorum};
-use scp_types::{Fault, NodeId};
+use scp_slot::below::quorum::{QuorumSet, SaneSet, greatest_quorum};
+use scp_slot::below::types::{Fault, NodeId};
 use std::alloc::{AllocError, Global};
 use std::collections::BTreeMap;
 use std::sync::Arc;

@@ -1,8 +1,8 @@
 use crate::quorum::{node, set_of, two_thirds};
-use scp_envelope::{Envelope, Pledges, Prepare, SharedEnvelope, Signature, Statement};
-use scp_quorum::SaneSet;
-use scp_types::{Ballot, Fault, SharedValue, Slot, Value};
-use scp_vote::{Board, Claim};
+use scp_slot::below::envelope::{Envelope, Pledges, Prepare, SharedEnvelope, Signature, Statement};
+use scp_slot::below::quorum::SaneSet;
+use scp_slot::below::types::{Ballot, Fault, SharedValue, Slot, Value};
+use scp_slot::below::vote::{Board, Claim};
 use std::alloc::Global;
 use std::sync::Arc;
 

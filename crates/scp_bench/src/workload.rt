@@ -2,7 +2,7 @@ use crate::consensus::decide_slots;
 use crate::decode::decode_records;
 use crate::quorum::{Shape, find_quorums};
 use crate::votes::{Sharing, count_votes};
-use scp_types::Fault;
+use scp_slot::below::types::Fault;
 use std::alloc::Global;
 
 /// The names of all workloads.

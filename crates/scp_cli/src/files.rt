@@ -1,8 +1,8 @@
 //! Files that are read, and what is reported of them to people and hosts.
 
-use scp_device::{ScriptIn, read_script, write_text};
-use scp_prompt::{Cause, Failure, Stream, Unopened, status, write_failure};
-use scp_types::{Fault, SCRIPT_LIMIT};
+use scp_command::below::prompt::{Cause, Failure, Stream, Unopened, status, write_failure};
+use scp_live_process::below::device::{ScriptIn, read_script, write_text};
+use scp_live_process::below::types::{Fault, SCRIPT_LIMIT};
 use std::io::ErrorKind;
 use std::{fs, io};
 
@@ -10,6 +10,13 @@ use std::{fs, io};
 pub fn failed(rt: &HostRuntime, path: &str, why: &str, failure: &Failure) -> u8 {
     let mut errors = Stream::new(rt.stderr());
     let _ = write_failure(rt.alloc(), &mut errors, path, &[], why, failure);
+    status(failure)
+}
+
+/// Reports to people why the text of a file is refused, and returns the exit status.
+pub fn refused(rt: &HostRuntime, path: &str, text: &[u8], failure: &Failure) -> u8 {
+    let mut errors = Stream::new(rt.stderr());
+    let _ = write_failure(rt.alloc(), &mut errors, path, text, "", failure);
     status(failure)
 }
 

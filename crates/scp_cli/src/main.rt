@@ -1,26 +1,29 @@
 //! The program that people run. It plays, checks and rewrites scripts, runs a node, and returns an exit status.
 //!
-//! What it promises: it is safe and returns. What it writes is what `serve` and `serve_plain` of `scp_command` promise. For a node it is what
+//! What it promises: it is safe and returns. What it writes is what `serve`, `convert` and `serve_plain` of `scp_command` promise, and
+//! behind a page or a trace where it comes from. For a node it is what
 //! `check_config` of `scp_live` promises, and `run_node`, `run_traced` and `account_node` of `scp_live_process`.
 //! Tests show which words ask for what, and the statuses of the whole program. Not claimed: that a log's lock keeps other processes out.
 #![tactic(auto)]
 
 mod files;
+mod origin;
 mod sim;
 mod version;
 
 use crate::files::{failed, failure_of, text_of_file, told, unopened_file, wrong};
+use crate::origin::{page_origin, trace_origin};
 use crate::sim::with_sim;
 use crate::version::VERSION;
-use scp_command::{Order, serve, serve_plain};
-use scp_device::ScriptIn;
-use scp_live::{NoLog, check_config};
-use scp_live_log::{EventLog, FileLog, MemoryLog};
-use scp_live_process::{account_node, run_node, run_traced};
-use scp_prompt::{
-    Asked, Cause, Failure, NodeAsked, NodeTask, Source, Stream, Task, Unasked, Unopened, Wanted,
-    read_words, write_settled,
+use scp_command::below::prompt::{
+    Asked, Cause, Conversion, ConversionAsked, Failure, NodeAsked, NodeTask, Source, Stream, Task,
+    Unasked, Unopened, Wanted, Way, read_words, write_settled,
 };
+use scp_command::{ConversionOrder, Order, convert, serve, serve_plain};
+use scp_live_process::below::device::ScriptIn;
+use scp_live_process::below::live::{NoLog, check_config};
+use scp_live_process::below::live_log::{EventLog, FileLog, MemoryLog};
+use scp_live_process::{account_node, run_node, run_traced};
 use std::alloc::{AllocError, Global};
 use std::fs::{File, OpenOptions};
 use std::io::ErrorKind;
@@ -63,12 +66,42 @@ fn joined(alloc: Global, words: &[&str], between: &str) -> Result<String, AllocE
     Ok(text)
 }
 
-/// The text between the words of messages. Each message to decode is a line; the words of the message to encode are in one line.
-fn between(task: Task) -> &'static str {
-    match task {
-        Task::Encode(_) => " ",
-        _ => "\n",
+/// The text between the words of a conversion. Each word of bytes is a line; the words of a text are in one line.
+fn between(way: Way) -> &'static str {
+    match way {
+        Way::Decode => "\n",
+        Way::Encode => " ",
     }
+}
+
+/// Converts each line of an input. If the input is the words themselves, either all of it is converted, or nothing is written.
+fn convert_all<R: ScriptIn + Cause>(
+    rt: &HostRuntime,
+    conversion: Conversion,
+    name: &str,
+    whole: bool,
+    input: &mut R,
+) -> u8 {
+    let mut output = Stream::new(io::writer(rt));
+    let mut errors = Stream::new(rt.stderr());
+    let order = ConversionOrder {
+        conversion,
+        whole,
+        name,
+    };
+    convert(rt.alloc(), order, input, &mut output, &mut errors)
+}
+
+/// Converts the words, or the lines of the standard input.
+fn with_conversion(rt: &HostRuntime, asked: &ConversionAsked<'_>) -> Result<u8, AllocError> {
+    let conversion = asked.conversion;
+    let Some(words) = &asked.words else {
+        let mut input = Stream::new(rt.reader());
+        return Ok(convert_all(rt, conversion, "<stdin>", false, &mut input));
+    };
+    let text = joined(rt.alloc(), words.as_slice(), between(conversion.way))?;
+    let mut input = Stream::new(text.as_bytes());
+    Ok(convert_all(rt, conversion, "<words>", true, &mut input))
 }
 
 /// Does the task, with the file at this path.
@@ -85,20 +118,30 @@ fn with_file<T: Threads + Wait + Sync>(
 }
 
 /// Does the task, with the input from its source.
-fn answer<T: Threads + Wait + Sync>(
+fn answer<T: Threads + Wait + Sync>(rt: &HostRuntime, threads: &T, asked: &Asked<'_>) -> u8 {
+    match asked.source {
+        Source::Input => done(rt, threads, asked, "<stdin>", &mut Stream::new(rt.reader())),
+        Source::File(path) => with_file(rt, threads, asked, path),
+    }
+}
+
+/// Does the task, with the input from its source. Behind a page or a trace that was written it writes, as a comment, where that comes from.
+fn answer_with_origin<T: Threads + Wait + Sync>(
     rt: &HostRuntime,
     threads: &T,
     asked: &Asked<'_>,
+    words: &[&str],
 ) -> Result<u8, AllocError> {
-    match &asked.source {
-        Source::Input => Ok(done(rt, threads, asked, "<stdin>", &mut Stream::new(rt.reader()))),
-        Source::File(path) => Ok(with_file(rt, threads, asked, *path)),
-        Source::Words(words) => {
-            let text = joined(rt.alloc(), words.as_slice(), between(asked.task))?;
-            let mut input = Stream::new(text.as_bytes());
-            Ok(done(rt, threads, asked, "<words>", &mut input))
-        }
+    let status = answer(rt, threads, asked);
+    if status != 0 || asked.plain {
+        return Ok(status);
     }
+    let origin = match asked.task {
+        Task::Draw => page_origin(rt.alloc(), words)?,
+        Task::Trace => trace_origin(rt.alloc(), words)?,
+        _ => return Ok(status),
+    };
+    Ok(told(rt, origin.as_str()))
 }
 
 /// Writes the folder of a file to the disk, so that a crash can't lose the file's name.
@@ -236,9 +279,10 @@ fn served<T: Threads + Wait + Sync>(
     let alloc = rt.alloc();
     let words: Vec<&str> = words.iter().map(|word| word.as_str()).collect(alloc)?;
     match read_words(alloc, VERSION, words.as_slice()) {
-        Ok(Wanted::Script(asked)) => answer(rt, threads, &asked),
+        Ok(Wanted::Script(asked)) => answer_with_origin(rt, threads, &asked, words.as_slice()),
+        Ok(Wanted::Conversion(asked)) => with_conversion(rt, &asked),
         Ok(Wanted::Node(asked)) => Ok(with_node(rt, &asked)),
-        Ok(Wanted::Sim(asked)) => with_sim(rt, asked),
+        Ok(Wanted::Sim(asked)) => with_sim(rt, asked, words.as_slice()),
         Err(Unasked::Told(text)) => Ok(told(rt, text.as_str())),
         Err(Unasked::Wrong(text)) => Ok(wrong(rt, text.as_str(), 2)),
         Err(Unasked::NoMemory) => Err(AllocError),

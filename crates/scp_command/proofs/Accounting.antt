@@ -1,31 +1,31 @@
 -- What is answered to a script of which the account is asked for.
-use Rattle.std.proofs.Common.{◌≡◌, ◌∙◌, inl, inr, refl, ℕ, false, List, [], map, string_bytes}
+use Rattle.std.proofs.Common.{◌≡◌, ◌∙◌, inl, inr, refl, ℕ, true, false, List, [], map, string_bytes}
 use Rattle.std.specs.Prelude.{◌≢◌, ◌⊎◌, All, None, Result, Ok, Err, IfErr, IfOk}
-use Rattle.scp_types.specs.declared.fault.Fault.{Fault}
-use Rattle.scp_types.specs.declared.fault.Fault.TheVariants as faults
-use Rattle.scp_gather.specs.Kv.{NodeReport}
-use Rattle.scp_turn.specs.Network.{NetworkView}
-use Rattle.scp_script.specs.declared.command.Command.{Command}
+use Rattle.scp_script_short.specs.scp_types.specs.declared.fault.Fault.{Fault}
+use Rattle.scp_script_short.specs.scp_types.specs.declared.fault.Fault.TheVariants as faults
+use Rattle.scp_notices.specs.scp_gather.specs.Kv.{NodeReport}
+use Rattle.scp_notices.specs.scp_turn.specs.Network.{NetworkView}
+use Rattle.scp_script_hints.specs.scp_script.specs.declared.command.Command.{Command}
 use Rattle.scp_notices.specs.scp_line.specs.declared.playing.PlayFault.{PlayFault}
-use Rattle.scp_threaded_script.specs.Reported.{AreNodesReported}
-use Rattle.scp_account.specs.scp_facts.specs.declared.happening.Kept.{Kept}
-use Rattle.scp_account.specs.scp_facts.specs.Keeping.{WatchView}
+use Rattle.scp_notices.specs.scp_threaded_script.specs.Reported.{AreNodesReported, AreAllKept}
+use Rattle.scp_draw.specs.scp_facts.specs.declared.happening.Kept.{Kept}
+use Rattle.scp_draw.specs.scp_facts.specs.Keeping.{WatchView}
 use Rattle.scp_account.specs.Run.{IsKept, keeping, RunIsKept}
 use Rattle.scp_notices.specs.scp_line.specs.declared.watch.Steps.{Steps}
-use Rattle.scp_report.specs.Report.{ReportView}
-use Rattle.scp_report.specs.Node.{reports_of}
+use Rattle.scp_notices.specs.scp_report.specs.Report.{ReportView}
+use Rattle.scp_notices.specs.scp_report.specs.Node.{reports_of}
 use Rattle.scp_notices.specs.scp_line.specs.Left.{reports_left}
 use Rattle.scp_account.specs.declared.node.Mode.TheVariants as ways
 use Rattle.scp_account.specs.Account.{account_text}
 use Rattle.scp_account.specs.Fits.{FitsNode}
-use Rattle.scp_prompt.specs.declared.asked.Mode.{Mode}
-use Rattle.scp_prompt.specs.declared.asked.Mode.TheVariants.{Serial, Threads}
-use Rattle.scp_prompt.specs.declared.asked.Shape.{Shape}
-use Rattle.scp_prompt.specs.declared.asked.Task.TheVariants.{Run, Account}
-use Rattle.scp_prompt.specs.declared.failure.Failure.{Failure}
-use Rattle.scp_prompt.specs.declared.failure.Failure.TheVariants.{NoMemory}
-use Rattle.scp_script_check.specs.declared.reading.Script.{Script}
-use Rattle.scp_script_check.specs.Lines.{IsSaid}
+use Rattle.scp_convert.specs.scp_prompt.specs.declared.asked.Mode.{Mode}
+use Rattle.scp_convert.specs.scp_prompt.specs.declared.asked.Mode.TheVariants.{Serial, Threads}
+use Rattle.scp_convert.specs.scp_prompt.specs.declared.asked.Shape.{Shape}
+use Rattle.scp_convert.specs.scp_prompt.specs.declared.asked.Task.TheVariants.{Run, Account}
+use Rattle.scp_convert.specs.scp_prompt.specs.declared.failure.Failure.{Failure}
+use Rattle.scp_convert.specs.scp_prompt.specs.declared.failure.Failure.TheVariants.{NoMemory}
+use Rattle.scp_notices.specs.scp_script_check.specs.declared.reading.Script.{Script}
+use Rattle.scp_notices.specs.scp_script_check.specs.Lines.{IsSaid}
 use Rattle.scp_notices.specs.declared.notice.Notice.{Notice}
 use Rattle.scp_notices.specs.Run.{IsRan, IsWatched, Shows}
 use Rattle.scp_notices.specs.Texts.{notices_text}
@@ -63,10 +63,10 @@ account_answer input given script network notices kept text (Ok answer) g ran ma
 account_answer input given script network notices kept text (Err failure) g ran made is same told = tt
 
 -- of one whose nodes ran in threads
-pub threads_account : (input : List ℕ) (given : Given) (script : Script) (nodes : List NodeReport) (notices : List Notice) (text : List ℕ) (r : Result Answer Failure) → IsGiven input given → IsRanInThreads given.text.items script nodes notices → text ≡ account_text ways.Threads (reports_left script.commands.items nodes []) []
+pub threads_account : (input : List ℕ) (given : Given) (script : Script) (nodes : List NodeReport) (notices : List Notice) (text : List ℕ) (r : Result Answer Failure) → IsGiven input given → IsRanInThreads given.text.items script nodes notices → AreAllKept true nodes → text ≡ account_text ways.Threads (reports_left script.commands.items nodes []) []
     → IfOk r (λ answer. answer.text.items ≡ text) → IfOk r (λ answer. string_bytes answer.notices ≡ notices_text (map (placed_notice given.expanded.lines) notices)) → IfOk r (IsThreadsAccount input)
-threads_account input given script nodes notices text (Ok answer) g ran is same told = record { given = given; is_given = g; script = script; nodes = nodes; notices = notices; ran = ran; account = same ∙ is; told = told }
-threads_account input given script nodes notices text (Err failure) g ran is same told = tt
+threads_account input given script nodes notices text (Ok answer) g ran kept is same told = record { given = given; is_given = g; script = script; nodes = nodes; notices = notices; ran = ran; kept = kept; account = same ∙ is; told = told }
+threads_account input given script nodes notices text (Err failure) g ran kept is same told = tt
 
 -- ---- why there is none
 

@@ -1,9 +1,9 @@
 -- Why an input is no script.
 use Rattle.std.proofs.Common.{◌≡◌, inl, inr, List, ℕ}
-use Rattle.scp_prompt.specs.declared.failure.Failure.{Failure}
-use Rattle.scp_device.specs.declared.bad.ReadFault.{ReadFault}
-use Rattle.scp_device.specs.declared.bad.ReadFault.TheVariants as reads
-use Rattle.scp_script_check.specs.Lines.{IsNotRead}
+use Rattle.scp_convert.specs.scp_prompt.specs.declared.failure.Failure.{Failure}
+use Rattle.scp_script_short.specs.scp_device.specs.declared.bad.ReadFault.{ReadFault}
+use Rattle.scp_script_short.specs.scp_device.specs.declared.bad.ReadFault.TheVariants as reads
+use Rattle.scp_notices.specs.scp_script_check.specs.Lines.{IsNotRead}
 use Rattle.scp_command.specs.declared.given.Given.{Given}
 use Rattle.scp_command.specs.Given.{IsGiven}
 use Rattle.scp_command.specs.Causes.{IsNoScript}

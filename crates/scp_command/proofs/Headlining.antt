@@ -1,11 +1,11 @@
 -- What a command answers to a script that is played is of nodes that hold their headlines.
 use Rattle.std.proofs.Common.{ℕ, List}
 use Rattle.scp_notices.specs.scp_line.specs.Headlines.{PlayingKeepsHeadlines, ReportingKeepsHeadlines}
-use Rattle.scp_prompt.specs.declared.asked.Mode.{Mode}
-use Rattle.scp_prompt.specs.declared.asked.Mode.TheVariants.{Serial, Threads}
-use Rattle.scp_prompt.specs.declared.asked.Shape.{Shape}
-use Rattle.scp_prompt.specs.declared.asked.Task.{Task}
-use Rattle.scp_prompt.specs.declared.asked.Task.TheVariants.{Run, Account, Check, Stand, Trace, Draw, Slot, Quorums, Hex, Text, Decode, Encode}
+use Rattle.scp_convert.specs.scp_prompt.specs.declared.asked.Mode.{Mode}
+use Rattle.scp_convert.specs.scp_prompt.specs.declared.asked.Mode.TheVariants.{Serial, Threads}
+use Rattle.scp_convert.specs.scp_prompt.specs.declared.asked.Shape.{Shape}
+use Rattle.scp_convert.specs.scp_prompt.specs.declared.asked.Task.{Task}
+use Rattle.scp_convert.specs.scp_prompt.specs.declared.asked.Task.TheVariants.{Run, Account, Check, Stand, Trace, Draw, Slot, Quorums, Hex, Text}
 use Rattle.scp_command.specs.declared.answer.Answer.{Answer}
 use Rattle.scp_command.specs.Answers.{Answers, IsRunAnswer, IsThreadsAnswer, IsAccountAnswer, IsThreadsAccount, IsHeadlinedRun, IsHeadlinedInThreads, IsHeadlinedAccount, IsHeadlinedThreadsAccount, IsHeadlinedFor}
 
@@ -60,6 +60,7 @@ threads_account_headlined law input answer is = record {
   said = is.ran.said;
   nodes = is.nodes;
   each = law is.script.commands.items is.nodes is.ran.shows.reported;
+  kept = is.kept;
   account = is.account;
 }
 
@@ -76,5 +77,3 @@ headlined played reported Slot input answer is = tt
 headlined played reported Quorums input answer is = tt
 headlined played reported Hex input answer is = tt
 headlined played reported Text input answer is = tt
-headlined played reported (Decode coding) input answer is = tt
-headlined played reported (Encode coding) input answer is = tt

@@ -1,5 +1,5 @@
 pub mod Causing
-pub mod Each
+pub mod Lines
 pub mod Placing
 pub mod Running
 pub mod Standing

@@ -1,9 +1,9 @@
 -- Why a script isn't played to its end.
 use Rattle.std.proofs.Common.{inl, inr, List, ℕ}
-use Rattle.scp_prompt.specs.declared.asked.Mode.TheVariants.{Serial, Threads}
-use Rattle.scp_prompt.specs.declared.asked.Shape.{Shape}
-use Rattle.scp_prompt.specs.declared.asked.Task.TheVariants.{Run}
-use Rattle.scp_prompt.specs.declared.failure.Failure.{Failure}
+use Rattle.scp_convert.specs.scp_prompt.specs.declared.asked.Mode.TheVariants.{Serial, Threads}
+use Rattle.scp_convert.specs.scp_prompt.specs.declared.asked.Shape.{Shape}
+use Rattle.scp_convert.specs.scp_prompt.specs.declared.asked.Task.TheVariants.{Run}
+use Rattle.scp_convert.specs.scp_prompt.specs.declared.failure.Failure.{Failure}
 use Rattle.scp_notices.specs.declared.playing.RunFault.{RunFault}
 use Rattle.scp_notices.specs.declared.playing.RunFault.TheVariants as runs
 use Rattle.scp_notices.specs.Run.{IsRunFault}

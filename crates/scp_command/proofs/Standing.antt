@@ -1,9 +1,9 @@
 -- What is told of a run.
 use Rattle.std.proofs.Common.{◌≡◌, ◌≢◌, ◌⊎◌, inl, inr, refl, List, ℕ, Bool, true, false, subst, sym}
 use Rattle.std.specs.Prelude.{Result, Ok, Err, IfOk}
-use Rattle.scp_types.specs.declared.fault.Fault.{Fault}
-use Rattle.scp_types.specs.declared.fault.Fault.TheVariants as faults
-use Rattle.scp_prompt.specs.declared.failure.Failure.{Failure}
+use Rattle.scp_script_short.specs.scp_types.specs.declared.fault.Fault.{Fault}
+use Rattle.scp_script_short.specs.scp_types.specs.declared.fault.Fault.TheVariants as faults
+use Rattle.scp_convert.specs.scp_prompt.specs.declared.failure.Failure.{Failure}
 use Rattle.scp_draw.specs.scp_trace.specs.declared.depth.Depth.{Depth}
 use Rattle.scp_draw.specs.scp_trace.specs.declared.playing.Traced.{Traced}
 use Rattle.scp_draw.specs.scp_trace.specs.Traced.{IsTraced}

@@ -1,12 +1,12 @@
 -- What was told, and where.
 use Rattle.std.proofs.Common.{◌≡◌, ◌≢◌, ◌⊎◌, ◌≤◌, inl, inr, ℕ, List, Option, Some, None, refl, arith}
 use Rattle.std.specs.Prelude.{Result, Ok, Err, OnOk, OnErr, IfSome, length, ◌<◌}
-use Rattle.scp_types.specs.declared.fault.Fault.{Fault}
-use Rattle.scp_types.specs.declared.fault.Fault.TheVariants.{NoMemory, Malformed, TooLong, Insane, Full, NotOpen, AlreadyOpen, LivesSpent, BadConfig, Failed, JournalFull, BadScript, Refused, Device}
-use Rattle.scp_device.specs.Device.{Gains, Fails, IsAll, IsReadFault}
-use Rattle.scp_prompt.specs.declared.failure.Failure.{Failure}
-use Rattle.scp_prompt.specs.declared.failure.Failure.TheVariants as failures
-use Rattle.scp_prompt.specs.Failing.{status_of, IsToldLine}
+use Rattle.scp_script_short.specs.scp_types.specs.declared.fault.Fault.{Fault}
+use Rattle.scp_script_short.specs.scp_types.specs.declared.fault.Fault.TheVariants.{NoMemory, Malformed, TooLong, Insane, Full, NotOpen, AlreadyOpen, LivesSpent, BadConfig, Failed, JournalFull, BadScript, Refused, Device}
+use Rattle.scp_script_short.specs.scp_device.specs.Device.{Gains, Fails, IsAll, IsReadFault}
+use Rattle.scp_convert.specs.scp_prompt.specs.declared.failure.Failure.{Failure}
+use Rattle.scp_convert.specs.scp_prompt.specs.declared.failure.Failure.TheVariants as failures
+use Rattle.scp_convert.specs.scp_prompt.specs.Failing.{status_of, IsToldLine}
 use Rattle.scp_command.specs.Serving.{IsTold, IsWritten, IsUnread}
 use Rattle.scp_command.specs.inside.Reading.{unread_of}
 

@@ -1,21 +1,23 @@
 -- What the commands make of their inputs (this project's profile).
-use Rattle.std.specs.Prelude.{ℕ, ◌≡◌, ◌==◌, Bool, true, false, List, [], ◌∷◌, ◌++◌, map, flat_map, None, codes, string_bytes}
-use Rattle.std.specs.List.{slice_split}
-use Rattle.scp_gather.specs.Kv.{NodeReport}
-use Rattle.scp_turn.specs.Heard.{Nodes}
-use Rattle.scp_turn.specs.Network.{NetworkView}
-use Rattle.scp_script.specs.declared.command.Command.{Command}
+use Rattle.std.specs.Prelude.{ℕ, ◌≡◌, ◌&&◌, Bool, true, false, not, nat_eq, List, [], ◌++◌, length, map, flat_map, None, codes, string_bytes}
+use Rattle.std.specs.List.{list_all, list_any}
+use Rattle.scp_notices.specs.scp_gather.specs.Kv.{NodeReport}
+use Rattle.scp_notices.specs.scp_turn.specs.Heard.{Nodes}
+use Rattle.scp_notices.specs.scp_turn.specs.Network.{NetworkView}
+use Rattle.scp_script_hints.specs.scp_script.specs.declared.command.Command.{Command}
+use Rattle.scp_script_hints.specs.scp_script.specs.declared.command.Command.TheVariants.{Report}
 use Rattle.scp_notices.specs.scp_line.specs.Headlines.{AreNodesHeadlined, AreReportsHeadlined}
+use Rattle.scp_notices.specs.scp_threaded_script.specs.Reported.{AreAllKept}
 use Rattle.scp_account.specs.declared.node.Mode.TheVariants as ways
 use Rattle.scp_account.specs.Account.{account_text}
-use Rattle.scp_account.specs.scp_facts.specs.declared.happening.Kept.{Kept}
+use Rattle.scp_draw.specs.scp_facts.specs.declared.happening.Kept.{Kept}
 use Rattle.scp_account.specs.Run.{IsKept}
-use Rattle.scp_report.specs.Report.{ReportView}
-use Rattle.scp_report.specs.Node.{reports_of}
+use Rattle.scp_notices.specs.scp_report.specs.Report.{ReportView}
+use Rattle.scp_notices.specs.scp_report.specs.Node.{reports_of}
 use Rattle.scp_notices.specs.scp_line.specs.Left.{reports_left}
-use Rattle.scp_report.specs.Reports.{records_in, settled_text}
-use Rattle.scp_report.specs.Text.{text_report_of}
-use Rattle.scp_report.specs.Json.{document_text}
+use Rattle.scp_notices.specs.scp_report.specs.Reports.{records_in, settled_text}
+use Rattle.scp_notices.specs.scp_report.specs.Text.{text_report_of}
+use Rattle.scp_notices.specs.scp_report.specs.Json.{document_text}
 use Rattle.scp_notices.specs.declared.notice.Notice.{Notice}
 use Rattle.scp_notices.specs.declared.notice.Notice.TheVariants.{Unsettled, GaveUp, Ignored}
 use Rattle.scp_notices.specs.Run.{IsRan}
@@ -24,11 +26,11 @@ use Rattle.scp_notices.specs.Texts.{notices_text}
 use Rattle.scp_script_hints.specs.declared.hint.Hint.{Hint}
 use Rattle.scp_script_hints.specs.Hints.{AreHints}
 use Rattle.scp_script_hints.specs.Texts.{hints_text}
-use Rattle.scp_script_check.specs.declared.reading.Script.{Script}
-use Rattle.scp_script_check.specs.declared.warning.Warning.{Warning}
-use Rattle.scp_script_check.specs.Lines.{IsSaid}
-use Rattle.scp_script_check.specs.Texts.{warnings_text}
-use Rattle.scp_script_check.specs.Warnings.{AreWarnings}
+use Rattle.scp_notices.specs.scp_script_check.specs.declared.reading.Script.{Script}
+use Rattle.scp_notices.specs.scp_script_check.specs.declared.warning.Warning.{Warning}
+use Rattle.scp_notices.specs.scp_script_check.specs.Lines.{IsSaid}
+use Rattle.scp_notices.specs.scp_script_check.specs.Texts.{warnings_text}
+use Rattle.scp_notices.specs.scp_script_check.specs.Warnings.{AreWarnings}
 use Rattle.scp_draw.specs.scp_trace.specs.declared.depth.Depth.{Depth}
 use Rattle.scp_draw.specs.scp_trace.specs.declared.depth.Depth.TheVariants.{Stands, Whole}
 use Rattle.scp_draw.specs.scp_trace.specs.declared.playing.Traced.{Traced}
@@ -37,22 +39,17 @@ use Rattle.scp_draw.specs.Drawn.{IsDrawn}
 use Rattle.scp_script_hints.specs.Told.{members_in, TellsQuorums}
 use Rattle.scp_script_short.specs.declared.placed.PlacedLine.{PlacedLine}
 use Rattle.scp_script_short.specs.Hexing.{IsHexed}
-use Rattle.scp_script_text.specs.declared.script.Kind.TheVariants.{Nodes as OfNodes, Slot as OfSlot}
-use Rattle.scp_script_text.specs.declared.script.Form.TheVariants.{Hex as AsHex, Text as AsText}
-use Rattle.scp_script_text.specs.Scripts.{is_slot_script, IsScriptOf}
+use Rattle.scp_script_short.specs.scp_script_text.specs.declared.script.Kind.TheVariants.{Nodes as OfNodes, Slot as OfSlot}
+use Rattle.scp_script_short.specs.scp_script_text.specs.declared.script.Form.TheVariants.{Hex as AsHex, Text as AsText}
+use Rattle.scp_script_short.specs.scp_script_text.specs.Scripts.{is_slot_script, IsScriptOf}
 use Rattle.scp_script_slot.specs.declared.script.Script.{Script as SlotScript}
 use Rattle.scp_script_slot.specs.Answers.{IsPlayed}
-use Rattle.scp_script_text.specs.declared.bytes.Spelling.{Spelling}
-use Rattle.scp_script_text.specs.declared.bytes.Spelling.TheVariants as spellings
-use Rattle.scp_script_text.specs.Decoding.{IsDecoded, IsEncoded}
-use Rattle.scp_prompt.specs.declared.asked.Task.{Task}
-use Rattle.scp_prompt.specs.declared.asked.Task.TheVariants.{Run, Account, Check, Stand, Trace, Draw, Slot, Quorums, Hex, Text, Decode, Encode}
-use Rattle.scp_prompt.specs.declared.asked.Mode.{Mode}
-use Rattle.scp_prompt.specs.declared.asked.Mode.TheVariants.{Serial, Threads}
-use Rattle.scp_prompt.specs.declared.asked.Shape.{Shape}
-use Rattle.scp_prompt.specs.declared.asked.Shape.TheVariants as shapes
-use Rattle.scp_prompt.specs.declared.asked.Coding.{Coding}
-use Rattle.scp_prompt.specs.declared.asked.Coding.TheVariants as codings
+use Rattle.scp_convert.specs.scp_prompt.specs.declared.asked.Task.{Task}
+use Rattle.scp_convert.specs.scp_prompt.specs.declared.asked.Task.TheVariants.{Run, Account, Check, Stand, Trace, Draw, Slot, Quorums, Hex, Text}
+use Rattle.scp_convert.specs.scp_prompt.specs.declared.asked.Mode.{Mode}
+use Rattle.scp_convert.specs.scp_prompt.specs.declared.asked.Mode.TheVariants.{Serial, Threads}
+use Rattle.scp_convert.specs.scp_prompt.specs.declared.asked.Shape.{Shape}
+use Rattle.scp_convert.specs.scp_prompt.specs.declared.asked.Shape.TheVariants as shapes
 use Rattle.scp_command.specs.declared.answer.Answer.{Answer}
 use Rattle.scp_command.specs.declared.given.Given.{Given}
 use Rattle.scp_command.specs.Given.{IsGiven, placed}
@@ -76,6 +73,24 @@ placed_notice lines (GaveUp line) = GaveUp (placed lines line)
 placed_notice lines (Ignored line why) = Ignored (placed lines line) why
 placed_notice lines notice = notice
 
+-- the command asks for a report
+abbrev pub asks_report : Command → Bool
+asks_report (Report node) = true
+asks_report command = false
+
+-- a node applied no slot
+abbrev pub applied_none : ReportView → Bool
+applied_none report = nat_eq (length report.applied) 0
+
+-- there are nodes, of which none applied a slot, and no command asks for a report
+abbrev pub is_silent : List ReportView → List Command → Bool
+is_silent reports commands = not (nat_eq (length reports) 0) && list_all applied_none reports && not (list_any asks_report commands)
+
+-- the line that says where to look then
+abbrev pub silence_text : Bool → List ℕ
+silence_text true = codes "silent: no node applied a slot, and no line asks for a report; see bowls stand, bowls check\n"
+silence_text false = []
+
 -- The input is a script, and its nodes played exactly its lines. The answer is their reports, with the notices of that run.
 pub record IsRunAnswer (shape : Shape) (input : List ℕ) (answer : Answer) : Type 0 where
   pub given : Given
@@ -85,7 +100,7 @@ pub record IsRunAnswer (shape : Shape) (input : List ℕ) (answer : Answer) : Ty
   pub notices : List Notice
   pub ran : IsRan given.text.items script network notices
   pub reports : answer.text.items ≡ reports_text shape (reports_of network.nodes) script.commands.items
-  pub told : string_bytes answer.notices ≡ notices_text (map (placed_notice given.expanded.lines) notices)
+  pub told : string_bytes answer.notices ≡ notices_text (map (placed_notice given.expanded.lines) notices) ++ silence_text (is_silent (reports_of network.nodes) script.commands.items)
 
 -- The input is a script whose nodes ran in threads. The answer is the reports of what the threads left, with the notices of these reports.
 pub record IsThreadsAnswer (shape : Shape) (input : List ℕ) (answer : Answer) : Type 0 where
@@ -96,7 +111,7 @@ pub record IsThreadsAnswer (shape : Shape) (input : List ℕ) (answer : Answer) 
   pub notices : List Notice
   pub ran : IsRanInThreads given.text.items script nodes notices
   pub reports : answer.text.items ≡ reports_text shape (reports_left script.commands.items nodes []) script.commands.items
-  pub told : string_bytes answer.notices ≡ notices_text (map (placed_notice given.expanded.lines) notices)
+  pub told : string_bytes answer.notices ≡ notices_text (map (placed_notice given.expanded.lines) notices) ++ silence_text (is_silent (reports_left script.commands.items nodes []) script.commands.items)
 
 -- the answer to a script that is played, by its mode
 abbrev pub IsRunBy : Mode → Shape → List ℕ → Answer → Type 0
@@ -120,7 +135,8 @@ pub record IsAccountAnswer (input : List ℕ) (answer : Answer) : Type 0 where
   pub account : answer.text.items ≡ account_text ways.Serial (reports_of network.nodes) kept
   pub told : string_bytes answer.notices ≡ notices_text (map (placed_notice given.expanded.lines) notices)
 
--- The input is a script whose nodes ran in threads. The answer is the account of what the threads left, with the notices of their reports.
+-- The input is a script whose nodes ran in threads. The answer is the account of what the threads left, with all that came over each link, and
+-- with the notices of their reports.
 pub record IsThreadsAccount (input : List ℕ) (answer : Answer) : Type 0 where
   pub given : Given
   pub is_given : IsGiven input given
@@ -128,6 +144,7 @@ pub record IsThreadsAccount (input : List ℕ) (answer : Answer) : Type 0 where
   pub nodes : List NodeReport
   pub notices : List Notice
   pub ran : IsRanInThreads given.text.items script nodes notices
+  pub kept : AreAllKept true nodes
   pub account : answer.text.items ≡ account_text ways.Threads (reports_left script.commands.items nodes []) []
   pub told : string_bytes answer.notices ≡ notices_text (map (placed_notice given.expanded.lines) notices)
 
@@ -149,7 +166,8 @@ pub record IsHeadlinedAccount (input : List ℕ) (answer : Answer) : Type 0 wher
   pub each : AreNodesHeadlined commands network.nodes
   pub account : answer.text.items ≡ account_text ways.Serial (reports_of network.nodes) kept
 
--- The input is a script whose nodes ran in threads. The answer is the account of what the threads left, and the headline holds for each node.
+-- The input is a script whose nodes ran in threads. The answer is the account of what the threads left, with all that came over each link, and the
+-- headline holds for each node.
 pub record IsHeadlinedThreadsAccount (input : List ℕ) (answer : Answer) : Type 0 where
   pub given : Given
   pub is_given : IsGiven input given
@@ -158,6 +176,7 @@ pub record IsHeadlinedThreadsAccount (input : List ℕ) (answer : Answer) : Type
   pub said : IsSaid given.text.items commands lines
   pub nodes : List NodeReport
   pub each : AreReportsHeadlined commands nodes
+  pub kept : AreAllKept true nodes
   pub account : answer.text.items ≡ account_text ways.Threads (reports_left commands nodes []) []
 
 -- the same, by the mode in which the script is played
@@ -265,32 +284,6 @@ abbrev pub IsTextBy : Bool → List ℕ → List ℕ → Type 0
 IsTextBy true input out = IsScriptOf OfSlot AsText input out
 IsTextBy false input out = IsScriptOf OfNodes AsText input out
 
--- ---- messages
-
--- how a message's bytes are written
-abbrev pub spelling_of : Coding → Spelling
-spelling_of codings.Hex = spellings.Hex
-spelling_of codings.Base64 = spellings.Base64
-
--- the lines of an input
-abbrev pub lines_of : List ℕ → List (List ℕ)
-lines_of input = slice_split (λ byte. byte == 10) input
-
--- the line is skipped: it is empty, or begins with `#`
-abbrev pub is_skipped : List ℕ → Bool
-is_skipped [] = true
-is_skipped (byte ∷ bytes) = byte == 35
-
--- A line that isn't skipped has its text, with a line feed after it.
-abbrev pub IsOne : (List ℕ → List ℕ → Type 0) → Bool → List ℕ → List ℕ → Type 0
-IsOne Is true line out = out ≡ []
-IsOne Is false line out = (text : List ℕ) × Is line text × (out ≡ text ++ codes "\n")
-
--- each line that isn't skipped has its text, in their order
-abbrev pub AreEach : (List ℕ → List ℕ → Type 0) → List (List ℕ) → List ℕ → Type 0
-AreEach Is [] out = out ≡ []
-AreEach Is (line ∷ lines) out = (first rest : List ℕ) × IsOne Is (is_skipped line) line first × AreEach Is lines rest × (out ≡ first ++ rest)
-
 -- ---- all commands
 
 -- what a command makes of an input
@@ -305,5 +298,3 @@ Answers Slot input answer = IsSlotAnswer input answer
 Answers Quorums input answer = IsQuorumsAnswer input answer
 Answers Hex input answer = (out : List ℕ) × IsHexBy (is_slot_script input) input out × IsJust out answer
 Answers Text input answer = (out : List ℕ) × IsTextBy (is_slot_script input) input out × IsJust out answer
-Answers (Decode coding) input answer = (out : List ℕ) × AreEach (IsDecoded (spelling_of coding)) (lines_of input) out × IsJust out answer
-Answers (Encode coding) input answer = (out : List ℕ) × AreEach (IsEncoded (spelling_of coding)) (lines_of input) out × IsJust out answer

@@ -1,51 +1,41 @@
 -- Why commands fail (this project's profile).
-use Rattle.std.specs.Prelude.{ℕ, ◌+◌, ◌≡◌, ◌⊎◌, ◌≤◌, ◌<◌, Bool, true, false, List, [], ◌∷◌, ◌++◌, All, length, Some, None}
-use Rattle.scp_types.specs.declared.limits.TheConstants.{SCRIPT_LIMIT}
-use Rattle.scp_gather.specs.Kv.{NodeReport}
-use Rattle.scp_turn.specs.Network.{NetworkView}
-use Rattle.scp_script.specs.declared.command.Command.{Command}
+use Rattle.std.specs.Prelude.{ℕ, ◌≡◌, ◌⊎◌, ◌≤◌, ◌<◌, Bool, true, false, List, [], All, length, Some, None}
+use Rattle.scp_script_short.specs.scp_types.specs.declared.limits.TheConstants.{SCRIPT_LIMIT}
+use Rattle.scp_notices.specs.scp_gather.specs.Kv.{NodeReport}
+use Rattle.scp_notices.specs.scp_turn.specs.Network.{NetworkView}
+use Rattle.scp_script_hints.specs.scp_script.specs.declared.command.Command.{Command}
 use Rattle.scp_notices.specs.scp_line.specs.declared.playing.PlayFault.{PlayFault}
 use Rattle.scp_notices.specs.scp_line.specs.Nodes.{IsStoppedAt}
-use Rattle.scp_threaded_script.specs.Reported.{AreNodesReported}
-use Rattle.scp_account.specs.scp_facts.specs.declared.happening.Kept.{Kept}
+use Rattle.scp_notices.specs.scp_threaded_script.specs.Reported.{AreNodesReported}
+use Rattle.scp_draw.specs.scp_facts.specs.declared.happening.Kept.{Kept}
 use Rattle.scp_account.specs.Run.{IsKept}
 use Rattle.scp_account.specs.Fits.{FitsNode}
-use Rattle.scp_report.specs.Node.{reports_of}
+use Rattle.scp_notices.specs.scp_report.specs.Node.{reports_of}
 use Rattle.scp_notices.specs.scp_line.specs.Left.{reports_left}
-use Rattle.scp_device.specs.declared.bad.Expected.{Expected}
-use Rattle.scp_device.specs.declared.bad.Expected.TheVariants.{BytesInDigits, BytesInBase64, AMessageWithin, AMessageFrom}
-use Rattle.scp_device.specs.declared.bad.BadWord.{BadWord}
-use Rattle.scp_device.specs.declared.bad.BadLine.{BadLine}
-use Rattle.scp_device.specs.declared.bad.WordFault.TheVariants.{Bad as BadText}
-use Rattle.scp_text.specs.Messages.{IsRefusedMessage, words_of}
-use Rattle.scp_script_text.specs.declared.script.Kind.TheVariants.{Nodes as OfNodes, Slot as OfSlot}
-use Rattle.scp_script_text.specs.declared.script.Form.TheVariants.{Hex as AsHex, Text as AsText}
-use Rattle.scp_script_text.specs.Scripts.{is_slot_script, IsScriptOf, IsRefusedLine}
+use Rattle.scp_script_short.specs.scp_device.specs.declared.bad.BadLine.{BadLine}
+use Rattle.scp_script_short.specs.scp_script_text.specs.declared.script.Kind.TheVariants.{Nodes as OfNodes, Slot as OfSlot}
+use Rattle.scp_script_short.specs.scp_script_text.specs.declared.script.Form.TheVariants.{Hex as AsHex, Text as AsText}
+use Rattle.scp_script_short.specs.scp_script_text.specs.Scripts.{is_slot_script, IsScriptOf, IsRefusedLine}
 use Rattle.scp_script_short.specs.declared.expanded.TheConstants.{LINE_LIMIT}
 use Rattle.scp_script_short.specs.declared.hexing.HexError.TheVariants.{Short, Text as HexText}
 use Rattle.scp_script_short.specs.Hexing.{IsNotHexed}
 use Rattle.scp_script_short.specs.Scripts.{said_in, weight_in}
 use Rattle.scp_notices.specs.Run.{IsStoppedOf}
 use Rattle.scp_notices.specs.Threads.{IsEndedOf}
-use Rattle.scp_script_text.specs.declared.decoding.DecodeError.{DecodeError}
-use Rattle.scp_script_text.specs.declared.decoding.DecodeError.TheVariants as decoding
-use Rattle.scp_script_text.specs.Decoding.{IsUndecoded, IsDecoded, IsEncoded}
-use Rattle.scp_script_check.specs.Lines.{IsFirstBad, IsBadAt, IsSaid}
+use Rattle.scp_notices.specs.scp_script_check.specs.Lines.{IsFirstBad, IsBadAt, IsSaid}
 use Rattle.scp_draw.specs.scp_trace.specs.declared.depth.Depth.{Depth}
 use Rattle.scp_draw.specs.scp_trace.specs.declared.depth.Depth.TheVariants.{Stands, Whole}
 use Rattle.scp_draw.specs.scp_trace.specs.declared.playing.Traced.{Traced}
 use Rattle.scp_draw.specs.scp_trace.specs.Traced.{IsTraced}
-use Rattle.scp_prompt.specs.declared.asked.Task.{Task}
-use Rattle.scp_prompt.specs.declared.asked.Task.TheVariants.{Run, Account, Check, Stand, Trace, Draw, Slot, Quorums, Hex, Text, Decode, Encode}
-use Rattle.scp_prompt.specs.declared.asked.Mode.{Mode}
-use Rattle.scp_prompt.specs.declared.asked.Mode.TheVariants.{Serial, Threads}
-use Rattle.scp_prompt.specs.declared.asked.Coding.{Coding}
-use Rattle.scp_prompt.specs.declared.asked.Coding.TheVariants as codings
-use Rattle.scp_prompt.specs.declared.failure.Failure.{Failure}
-use Rattle.scp_prompt.specs.declared.failure.Failure.TheVariants.{Word, Line, TooLong, NoMemory}
+use Rattle.scp_convert.specs.scp_prompt.specs.declared.asked.Task.{Task}
+use Rattle.scp_convert.specs.scp_prompt.specs.declared.asked.Task.TheVariants.{Run, Account, Check, Stand, Trace, Draw, Slot, Quorums, Hex, Text}
+use Rattle.scp_convert.specs.scp_prompt.specs.declared.asked.Mode.{Mode}
+use Rattle.scp_convert.specs.scp_prompt.specs.declared.asked.Mode.TheVariants.{Serial, Threads}
+use Rattle.scp_convert.specs.scp_prompt.specs.declared.failure.Failure.{Failure}
+use Rattle.scp_convert.specs.scp_prompt.specs.declared.failure.Failure.TheVariants.{Word, Line, TooLong, NoMemory}
 use Rattle.scp_command.specs.declared.given.Given.{Given}
 use Rattle.scp_command.specs.Given.{IsGiven, IsAtLine, bad_of, placed, stop_of}
-use Rattle.scp_command.specs.Answers.{AreEach, is_skipped, lines_of, spelling_of}
+use Rattle.scp_command.specs.Converting.{lines_of}
 
 -- The failure is the first bad line of the script that the input is.
 pub record IsBadInput (input : List ℕ) (failure : Failure) : Type 0 where
@@ -153,49 +143,6 @@ abbrev pub IsNoTextBy : Bool → List ℕ → Failure → Type 0
 IsNoTextBy true input failure = failure ≡ NoMemory
 IsNoTextBy false input failure = (failure ≡ NoMemory) ⊎ ((bad : BadLine) × IsRefusedLine OfNodes AsText input bad × (failure ≡ Word bad))
 
--- ---- messages
-
--- what is expected of the bytes of a message
-abbrev pub bytes_expected : Coding → Expected
-bytes_expected codings.Hex = BytesInDigits
-bytes_expected codings.Base64 = BytesInBase64
-
--- the failure of this word of this line, with what was expected there
-abbrev pub word_at : ℕ → ℕ → Expected → Failure
-word_at line word expected = Word (record { line = line; bad = record { word = word; expected = expected } })
-
--- the failure of a line's word that isn't a message
-abbrev pub decode_failure : Coding → ℕ → DecodeError → Failure
-decode_failure coding line decoding.NoMemory = NoMemory
-decode_failure coding line decoding.NoBytes = word_at line 1 (bytes_expected coding)
-decode_failure coding line decoding.TooLong = word_at line 1 AMessageWithin
-decode_failure coding line (decoding.Malformed place) = word_at line 1 (AMessageFrom place)
-
--- why the line at this place can't be decoded as a message
-abbrev pub IsNotDecoded : Coding → List ℕ → ℕ → Failure → Type 0
-IsNotDecoded coding line place failure = (error : DecodeError) × IsUndecoded (spelling_of coding) line error × (failure ≡ decode_failure coding place error)
-
--- why the line at this place can't be encoded as a message
-abbrev pub IsNotEncoded : List ℕ → ℕ → Failure → Type 0
-IsNotEncoded line place failure =
-    (failure ≡ NoMemory)
-    ⊎ ((bad : BadWord) × IsRefusedMessage (words_of line) (BadText bad) × (failure ≡ Word (record { line = place; bad = bad })))
-
--- The failure is of the first of these lines that isn't skipped and has no text. Those before it have theirs.
-pub record IsFirstWithout (Is : List ℕ → List ℕ → Type 0) (IsNot : List ℕ → ℕ → Failure → Type 0) (lines : List (List ℕ)) (failure : Failure) : Type 0 where
-  pub front : List (List ℕ)
-  pub line : List ℕ
-  pub back : List (List ℕ)
-  pub parts : lines ≡ front ++ line ∷ back
-  pub out : List ℕ
-  pub before : AreEach Is front out
-  pub says : is_skipped line ≡ false
-  pub refused : IsNot line (length front + 1) failure
-
--- why not all of these lines have their text: out of memory, or the first line that has none
-abbrev pub IsNoneOf : (List ℕ → List ℕ → Type 0) → (List ℕ → ℕ → Failure → Type 0) → List (List ℕ) → Failure → Type 0
-IsNoneOf Is IsNot lines failure = (failure ≡ NoMemory) ⊎ IsFirstWithout Is IsNot lines failure
-
 -- ---- all commands
 
 -- why a command fails on an input
@@ -210,5 +157,3 @@ Fails Slot input failure = IsNoSlotDigits input failure ⊎ IsSlotLine input fai
 Fails Quorums input failure = IsNoScript input failure
 Fails Hex input failure = IsNoHexBy (is_slot_script input) input failure
 Fails Text input failure = IsNoTextBy (is_slot_script input) input failure
-Fails (Decode coding) input failure = IsNoneOf (IsDecoded (spelling_of coding)) (IsNotDecoded coding) (lines_of input) failure
-Fails (Encode coding) input failure = IsNoneOf (IsEncoded (spelling_of coding)) IsNotEncoded (lines_of input) failure

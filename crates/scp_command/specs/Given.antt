@@ -1,9 +1,9 @@
 -- Scripts that people give, and the places of what is wrong in them (this project's profile).
 use Rattle.std.specs.Prelude.{ℕ, ◌≡◌, nat_le, Bool, true, false, List, Option, Some, None}
 use Rattle.scp_notices.specs.scp_line.specs.declared.playing.PlayFault.{PlayFault}
-use Rattle.scp_prompt.specs.declared.failure.Failure.{Failure}
-use Rattle.scp_prompt.specs.declared.failure.Failure.TheVariants.{Word, Line, Stopped}
-use Rattle.scp_device.specs.declared.bad.BadLine.{BadLine}
+use Rattle.scp_convert.specs.scp_prompt.specs.declared.failure.Failure.{Failure}
+use Rattle.scp_convert.specs.scp_prompt.specs.declared.failure.Failure.TheVariants.{Word, Line, Stopped}
+use Rattle.scp_script_short.specs.scp_device.specs.declared.bad.BadLine.{BadLine}
 use Rattle.scp_script_short.specs.declared.expanded.Expanded.{Expanded}
 use Rattle.scp_script_short.specs.declared.placed.PlacedLine.{PlacedLine}
 use Rattle.scp_script_short.specs.Scripts.{IsExpanded, script_of, place_at}

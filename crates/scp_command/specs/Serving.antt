@@ -1,33 +1,25 @@
 -- What a command writes, and where it writes it (this project's profile).
 use Rattle.std.specs.Prelude.{ℕ, ◌≡◌, ◌⊎◌, ◌≤◌, ◌<◌, Bool, true, false, List, [], ◌∷◌, ◌++◌, length, Option, Some, None, IfSome, string_bytes}
-use Rattle.scp_prompt.specs.declared.bytes.TheConstants.{LONG_LIMIT}
-use Rattle.scp_types.specs.declared.limits.TheConstants.{SCRIPT_LIMIT}
-use Rattle.scp_device.specs.Device.{Gains, Fails as HasFailed}
-use Rattle.scp_prompt.specs.declared.asked.Task.{Task}
-use Rattle.scp_prompt.specs.declared.asked.Task.TheVariants.{Check, Trace, Slot, Hex, Text, Decode, Encode}
-use Rattle.scp_prompt.specs.declared.failure.Failure.{Failure}
-use Rattle.scp_prompt.specs.declared.failure.Failure.TheVariants.{Word, TooLong, NoMemory, Unread, Line}
-use Rattle.scp_prompt.specs.Failing.{IsToldLine, settled_line}
+use Rattle.scp_script_short.specs.scp_device.specs.Device.{Gains, Fails as HasFailed}
+use Rattle.scp_convert.specs.scp_prompt.specs.declared.asked.Conversion.{Conversion}
+use Rattle.scp_convert.specs.scp_prompt.specs.declared.asked.Task.{Task}
+use Rattle.scp_convert.specs.scp_prompt.specs.declared.asked.Task.TheVariants.{Check, Trace, Slot}
+use Rattle.scp_convert.specs.scp_prompt.specs.declared.failure.Failure.{Failure}
+use Rattle.scp_convert.specs.scp_prompt.specs.declared.failure.Failure.TheVariants.{Word, TooLong, NoMemory, Unread, Line}
+use Rattle.scp_convert.specs.scp_prompt.specs.Failing.{IsToldLine, settled_line}
 use Rattle.scp_notices.specs.scp_line.specs.declared.playing.PlayFault.{PlayFault}
 use Rattle.scp_notices.specs.scp_line.specs.Outcome.{fault_line}
 use Rattle.scp_script_slot.specs.declared.script.Script.{Script as SlotScript}
 use Rattle.scp_script_slot.specs.Answers.{IsPlayed}
-use Rattle.scp_device.specs.declared.bad.BadLine.{BadLine}
-use Rattle.scp_script_check.specs.Lines.{IsFirstBad, IsBadAt, MayWant}
-use Rattle.scp_script_check.specs.Texts.{IsLinted}
+use Rattle.scp_script_short.specs.scp_device.specs.declared.bad.BadLine.{BadLine}
+use Rattle.scp_notices.specs.scp_script_check.specs.Lines.{IsFirstBad, IsBadAt, MayWant}
+use Rattle.scp_notices.specs.scp_script_check.specs.Texts.{IsLinted}
 use Rattle.scp_draw.specs.scp_trace.specs.declared.depth.Depth.{Depth}
 use Rattle.scp_draw.specs.scp_trace.specs.declared.depth.Depth.TheVariants.{Stands, Whole}
 use Rattle.scp_draw.specs.scp_trace.specs.declared.playing.Traced.{Traced}
 use Rattle.scp_draw.specs.scp_trace.specs.Traced.{IsTraced}
-use Rattle.scp_command.specs.Answers.{lines_of}
-
--- The most bytes of a task's input: 16 MiB if the input is written in another form, else 1 MiB.
-abbrev pub limit_of : Task → ℕ
-limit_of Hex = LONG_LIMIT
-limit_of Text = LONG_LIMIT
-limit_of (Decode coding) = LONG_LIMIT
-limit_of (Encode coding) = LONG_LIMIT
-limit_of task = SCRIPT_LIMIT
+use Rattle.scp_command.specs.declared.converting.RefusedLine.{RefusedLine}
+use Rattle.scp_command.specs.Converting.{lines_of, AreReported}
 
 -- the exit status: 0 without notices, else 4
 abbrev pub status_of : List ℕ → ℕ
@@ -47,6 +39,11 @@ IsWritten written failures old text new = (Gains (written old) text (written new
 abbrev pub IsTold : {W : Type 0} → (W → Option (List ℕ)) → (W → ℕ) → W → List ℕ → List ℕ → List ℕ → Failure → W → Type 0
 IsTold written failures old name text why failure new =
     ((line : List ℕ) × IsToldLine name text why failure line × Gains (written old) line (written new) × (failures new ≡ failures old)) ⊎ HasFailed (failures old) (failures new)
+
+-- exactly the lines that report these refused lines were written, or the writer failed
+abbrev pub AreTold : {W : Type 0} → (W → Option (List ℕ)) → (W → ℕ) → W → Conversion → List ℕ → List ℕ → List RefusedLine → W → Type 0
+AreTold written failures old conversion name input refused new =
+    ((told : List ℕ) × AreReported conversion name input refused told × Gains (written old) told (written new) × (failures new ≡ failures old)) ⊎ HasFailed (failures old) (failures new)
 
 -- Why an input wasn't read, where `left` is all that was left of it: it is over this limit, memory ran out, or the reader failed.
 abbrev pub IsUnread : ℕ → Option (List ℕ) → Type 0 → Failure → Type 0

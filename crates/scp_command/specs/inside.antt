@@ -1,5 +1,5 @@
 pub mod Given
-pub mod Messages
+pub mod Converting
 pub mod Plain
 pub mod Reading
 pub mod Runs

@@ -1,21 +1,22 @@
 //! Scripts in their other form, and scripts of one slot.
 ghost use Rattle.std.specs.Prelude.{◌≡◌, ◌≤◌, ◌⊎◌, ℕ, List, IfOk, IfErr, false, length, string_bytes};
 ghost use Rattle.scp_script_short.specs.Hexing.{IsNotHexed};
-ghost use Rattle.scp_script_text.specs.Scripts.{IsScriptOf};
+ghost use Rattle.scp_script_short.specs.scp_script_text.specs.Scripts.{IsScriptOf};
 ghost use Rattle.scp_script_slot.specs.declared.script.Script.{Script as SlotScript};
 ghost use Rattle.scp_script_slot.specs.Answers.{IsPlayed};
 ghost use Rattle.scp_script_slot.specs.Serving.{IsScriptFault};
 ghost use Rattle.scp_command.specs.Given.{IsAtLine};
-ghost use Rattle.scp_command.specs.Answers.{IsJust, IsSlotAnswer, Answers, lines_of};
+ghost use Rattle.scp_command.specs.Answers.{IsJust, IsSlotAnswer, Answers};
+ghost use Rattle.scp_command.specs.Converting.{lines_of};
 ghost use Rattle.scp_command.specs.Causes.{IsNoSlotDigits, IsNoHexBy, Fails};
 
 use crate::answer::Answer;
-use scp_device::{BadLine, BadWord, ReadFault};
-use scp_prompt::{Failure, Task};
+use scp_convert::below::prompt::{Failure, Task};
+use scp_script_short::below::device::{BadLine, BadWord, ReadFault};
+use scp_script_short::below::script_text::{Form, Kind, is_slot_script, rewrite};
+use scp_script_short::below::types::{Fault, SCRIPT_LIMIT};
 use scp_script_short::{HexError, hex};
 use scp_script_slot::{play, read_slot_script, reason_of};
-use scp_script_text::{Form, Kind, is_slot_script, rewrite};
-use scp_types::{Fault, SCRIPT_LIMIT};
 use std::alloc::Global;
 
 /// Why a script isn't written in hex digits.

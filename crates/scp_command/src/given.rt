@@ -1,18 +1,18 @@
 //! Scripts that people give: in hex digits, as text, and with shorthands.
 ghost use Rattle.std.specs.Prelude.{◌≡◌, ◌≢◌, ℕ, List, [], All, map, IfOk, IfErr};
-ghost use Rattle.scp_script.specs.Script.{AreAdmitted};
-ghost use Rattle.scp_script.specs.Nodes.{NamesNodes};
-ghost use Rattle.scp_script_check.specs.Lines.{IsSaid};
+ghost use Rattle.scp_script_hints.specs.scp_script.specs.Script.{AreAdmitted};
+ghost use Rattle.scp_script_hints.specs.scp_script.specs.Nodes.{NamesNodes};
+ghost use Rattle.scp_notices.specs.scp_script_check.specs.Lines.{IsSaid};
 ghost use Rattle.scp_command.specs.Given.{IsGiven, placed, bad_of, stop_of};
 ghost use Rattle.scp_command.specs.Causes.{IsNoScript};
 ghost use Rattle.scp_command.specs.inside.Given.{read_failure, unread_script, IsStartFault};
 
-use scp_device::{BadLine, ReadFault};
+use scp_convert::below::prompt::{Failure, Stop};
 use scp_notices::PlayFault;
-use scp_prompt::{Failure, Stop};
-use scp_script_check::{Script, read};
+use scp_notices::below::script_check::{Script, read};
+use scp_script_short::below::device::{BadLine, ReadFault};
+use scp_script_short::below::types::{Fault, SCRIPT_LIMIT};
 use scp_script_short::{Expanded, expand};
-use scp_types::{Fault, SCRIPT_LIMIT};
 use std::alloc::{AllocError, Global};
 
 /// A script whose shorthands were expanded into their lines.

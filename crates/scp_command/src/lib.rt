@@ -7,19 +7,22 @@
 //!   script or a message, and 3 for a node, memory, a file or a stream.
 //! - The status of a run with notices is 4. The notices are written to the stream of errors, unless they are to be left out.
 //! - `serve_plain` reports the same failures on the output, in the fixed form.
+//! - `convert` converts each line of an input, or reports its refusal, on the stream of errors, and reads on. Then its status is 1.
 //!
 //! Not claimed: which words ask for what.
 #![tactic(auto)]
 
 mod answer;
+pub mod below;
+mod converting;
 mod forms;
 mod given;
 mod looks;
-mod messages;
 mod plain;
 mod runs;
 mod serving;
 
 pub use answer::Answer;
+pub use converting::{ConversionOrder, RefusedLine, convert};
 pub use plain::serve_plain;
 pub use serving::{Order, serve};

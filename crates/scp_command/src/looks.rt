@@ -1,14 +1,14 @@
 //! What the commands show of scripts.
 ghost use Rattle.std.specs.Prelude.{◌≡◌, ◌++◌, ℕ, List, [], All, IfOk, IfErr, IsOkUnless, codes, string_bytes};
-ghost use Rattle.scp_script.specs.Script.{AreAdmitted};
-ghost use Rattle.scp_script.specs.Nodes.{NamesNodes};
-ghost use Rattle.scp_script_check.specs.declared.warning.Warning.{Warning};
-ghost use Rattle.scp_script_check.specs.Texts.{warnings_text};
-ghost use Rattle.scp_script_check.specs.Warnings.{AreWarnings};
+ghost use Rattle.scp_script_hints.specs.scp_script.specs.Script.{AreAdmitted};
+ghost use Rattle.scp_script_hints.specs.scp_script.specs.Nodes.{NamesNodes};
+ghost use Rattle.scp_notices.specs.scp_script_check.specs.declared.warning.Warning.{Warning};
+ghost use Rattle.scp_notices.specs.scp_script_check.specs.Texts.{warnings_text};
+ghost use Rattle.scp_notices.specs.scp_script_check.specs.Warnings.{AreWarnings};
 ghost use Rattle.scp_script_hints.specs.declared.hint.Hint.{Hint};
 ghost use Rattle.scp_script_hints.specs.Hints.{AreHints};
 ghost use Rattle.scp_script_hints.specs.Texts.{hints_text};
-ghost use Rattle.scp_script_check.specs.Lines.{IsNotRead};
+ghost use Rattle.scp_notices.specs.scp_script_check.specs.Lines.{IsNotRead};
 ghost use Rattle.scp_draw.specs.Drawn.{IsDrawFault};
 ghost use Rattle.scp_command.specs.Given.{IsGiven};
 ghost use Rattle.scp_command.specs.Answers.{IsCheckAnswer, IsTraceAnswer, IsDrawAnswer, IsQuorumsAnswer};
@@ -16,12 +16,12 @@ ghost use Rattle.scp_command.specs.Causes.{IsNoScript, IsNotTraced, Fails};
 
 use crate::answer::Answer;
 use crate::given::{Given, commands_of, given_by, of_play, of_unread};
-use scp_device::ReadFault;
+use scp_convert::below::prompt::{Failure, Task};
 use scp_draw::{Depth, DrawFault, draw, trace};
-use scp_prompt::{Failure, Task};
-use scp_script_check::{Script, text_of_warnings, warnings};
+use scp_notices::below::script_check::{Script, text_of_warnings, warnings};
 use scp_script_hints::{hints, quorums_text, text_of_hints};
-use scp_types::Fault;
+use scp_script_short::below::device::ReadFault;
+use scp_script_short::below::types::Fault;
 use std::alloc::Global;
 
 /// The warnings and the hints of a script, one line each, and `ok`.

@@ -1,19 +1,19 @@
 //! The commands that write everything on one stream, in the fixed form.
 ghost use Rattle.std.specs.Prelude.{◌≡◌, ◌≢◌, ◌≤◌, ◌⊎◌, ℕ, List, length, IfOk, IfErr};
-ghost use Rattle.scp_device.specs.Device.{Gains, Fails as HasFailed, IsAll};
-ghost use Rattle.scp_prompt.specs.Failing.{status_of as failure_status};
+ghost use Rattle.scp_script_short.specs.scp_device.specs.Device.{Gains, Fails as HasFailed, IsAll};
+ghost use Rattle.scp_convert.specs.scp_prompt.specs.Failing.{status_of as failure_status};
 ghost use Rattle.scp_command.specs.Serving.{IsPlain, IsPlainUpTo, IsNotPlain, IsNotPlainScript, IsUnread, IsSettled};
 ghost use Rattle.scp_command.specs.inside.Plain.{IsTelling, IsRunTelling, IsTellingOf};
 
 use crate::forms::played_slot;
 use crate::given::failure_of;
 use crate::serving::read_short;
-use scp_device::{ReportOut, ScriptIn};
+use scp_convert::below::prompt::{Failure, Task, status, write_bytes, write_settled};
 use scp_draw::{Depth, Traced, trace};
+use scp_notices::below::script_check::lint;
 use scp_notices::line_of_fault;
-use scp_prompt::{Failure, Task, status, write_bytes, write_settled};
-use scp_script_check::lint;
-use scp_types::{Fault, SCRIPT_LIMIT};
+use scp_script_short::below::device::{ReportOut, ScriptIn};
+use scp_script_short::below::types::{Fault, SCRIPT_LIMIT};
 use std::alloc::{AllocError, Global};
 
 /// What is written on one stream: all of it, or all up to the fault that ended it, with that fault's line.

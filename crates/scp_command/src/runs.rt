@@ -1,10 +1,11 @@
 //! Scripts that are played, and their reports.
-ghost use Rattle.std.specs.Prelude.{◌≡◌, ◌≤◌, ℕ, List, [], All, IfOk, IfErr, IsOk, IsOkUnless, length, map, string_bytes};
-ghost use Rattle.scp_types.specs.declared.limits.TheConstants.{NODE_LIMIT};
-ghost use Rattle.scp_script.specs.Nodes.{NamesNodes};
-ghost use Rattle.scp_script.specs.Script.{AreAdmitted, node_count};
-ghost use Rattle.scp_report.specs.Report.{view_of};
-ghost use Rattle.scp_report.specs.Node.{reports_of as records_of};
+ghost use Rattle.std.specs.Prelude.{◌≡◌, ◌≤◌, ◌++◌, ℕ, List, [], All, IfOk, IfErr, OnOk, IsOk, IsOkUnless, length, map, string_bytes};
+ghost use Rattle.std.specs.List.{list_all, list_any};
+ghost use Rattle.scp_script_short.specs.scp_types.specs.declared.limits.TheConstants.{NODE_LIMIT};
+ghost use Rattle.scp_script_hints.specs.scp_script.specs.Nodes.{NamesNodes};
+ghost use Rattle.scp_script_hints.specs.scp_script.specs.Script.{AreAdmitted, node_count};
+ghost use Rattle.scp_notices.specs.scp_report.specs.Report.{view_of};
+ghost use Rattle.scp_notices.specs.scp_report.specs.Node.{reports_of as records_of};
 ghost use Rattle.scp_notices.specs.scp_line.specs.Left.{reports_left as records_left};
 ghost use Rattle.scp_account.specs.declared.node.Mode.TheVariants as ways;
 ghost use Rattle.scp_account.specs.Account.{account_text as accounted};
@@ -13,7 +14,7 @@ ghost use Rattle.scp_notices.specs.Texts.{notices_text};
 ghost use Rattle.scp_notices.specs.Run.{IsRunFault};
 ghost use Rattle.scp_notices.specs.Threads.{IsThreadsFault};
 ghost use Rattle.scp_command.specs.Given.{IsGiven};
-ghost use Rattle.scp_command.specs.Answers.{reports_text, placed_notice, IsRunAnswer, IsThreadsAnswer, IsRunBy, IsAccountAnswer, IsThreadsAccount, IsAccountBy};
+ghost use Rattle.scp_command.specs.Answers.{reports_text, placed_notice, applied_none, asks_report, is_silent as silent_by, silence_text, IsRunAnswer, IsThreadsAnswer, IsRunBy, IsAccountAnswer, IsThreadsAccount, IsAccountBy};
 ghost use Rattle.scp_command.specs.Causes.{Fails};
 ghost use Rattle.scp_command.specs.inside.Runs.{IsOfRun, IsUntold};
 
@@ -23,20 +24,52 @@ use scp_account::{
     KeepingWatch, Kept, Mode as Way, Steps, a_run_is_kept_as_it_happened, account as account_text,
     reports_left, sets_of,
 };
-use scp_core::Node;
-use scp_gather::NodeReport;
+use scp_convert::below::prompt::{Failure, Mode, Shape, Task};
+use scp_notices::below::gather::NodeReport;
+use scp_notices::below::node::Node;
+use scp_notices::below::report::{
+    Report, json_report, reports_of as all_records, settled_report, text_report,
+};
 use scp_notices::{
     Notice, PlayFault, Ran, RanInThreads, RunFault, Watched, run as run_script, run_in_threads,
     run_watched, text_of_notices,
 };
-use scp_prompt::{Failure, Mode, Shape, Task};
-use scp_report::{Report, json_report, reports_of as all_records, settled_report, text_report};
-use scp_script::{Command, count_of_nodes};
+use scp_script_hints::below::script::{Command, count_of_nodes};
 use scp_script_short::Expanded;
-use scp_types::Fault;
+use scp_script_short::below::types::Fault;
 use std::alloc::{AllocError, Global};
 use std::sync::Wait;
 use std::thread::Threads;
+
+/// The reports of nodes, and whether there is nothing to tell of these nodes.
+#[derive(Drop)]
+struct Reported {
+    text: String,
+    silent: bool,
+}
+
+/// Whether no node applied a slot.
+fn applied_nothing(reports: &[Report<'_>]) -> bool
+    ensures { result ≡ list_all applied_none (map view_of reports.now) }
+{
+    reports.iter().all(|report| report.applied.is_empty())
+}
+
+/// Whether a command asks for a report.
+fn ask_for_reports(commands: &[Command]) -> bool
+    ensures { result ≡ list_any asks_report commands.now }
+{
+    commands
+        .iter()
+        .any(|command| matches!(command, Command::Report(_)))
+}
+
+/// Whether there are nodes, of which none applied a slot, and no command asks for a report.
+fn is_silent(reports: &[Report<'_>], commands: &[Command]) -> bool
+    ensures { result ≡ silent_by (map view_of reports.now) commands.now }
+{
+    !reports.is_empty() && applied_nothing(reports) && !ask_for_reports(commands)
+}
 
 /// The reports that the commands ask for, in this form, from the records of the nodes.
 fn shaped(
@@ -56,21 +89,39 @@ fn shaped(
     }
 }
 
+/// The reports that the commands ask for, and whether there is nothing to tell.
+fn reports_with(
+    alloc: Global,
+    shape: Shape,
+    reports: &[Report<'_>],
+    commands: &[Command],
+) -> Result<Reported, Fault>
+    requires names { All NamesNodes commands.now }
+    ensures text { IfOk result (λ told. string_bytes told.text ≡ reports_text shape (map view_of reports.now) commands.now) }
+    ensures silent { IfOk result (λ told. told.silent ≡ silent_by (map view_of reports.now) commands.now) }
+    ensures only_memory { IsOkUnless result Fault.NoMemory }
+{
+    let silent = is_silent(reports, commands);
+    let text = shaped(alloc, shape, reports, commands)?;
+    Ok(Reported { text, silent })
+}
+
 /// The reports of nodes that were played one step after another.
 fn reports_of(
     alloc: Global,
     shape: Shape,
     nodes: &[Node],
     commands: &[Command],
-) -> Result<String, Fault>
+) -> Result<Reported, Fault>
     requires names { All NamesNodes commands.now }
     requires few { length nodes.now ≤ NODE_LIMIT }
-    ensures text { IfOk result (λ text. string_bytes text ≡ reports_text shape (records_of nodes.now) commands.now) }
+    ensures text { IfOk result (λ told. string_bytes told.text ≡ reports_text shape (records_of nodes.now) commands.now) }
+    ensures silent { IfOk result (λ told. told.silent ≡ silent_by (records_of nodes.now) commands.now) }
     ensures only_memory { IsOkUnless result Fault.NoMemory }
 {
     let reports = all_records(alloc, nodes)?;
-    let text = shaped(alloc, shape, reports.as_slice(), commands)?;
-    Ok(text)
+    let told = reports_with(alloc, shape, reports.as_slice(), commands)?;
+    Ok(told)
 }
 
 /// The reports of nodes that ran in threads.
@@ -79,18 +130,19 @@ fn reports_gathered(
     shape: Shape,
     nodes: &[NodeReport],
     commands: &[Command],
-) -> Result<String, Fault>
+) -> Result<Reported, Fault>
     requires names { All NamesNodes commands.now }
     requires admitted { AreAdmitted [] commands.now }
     requires total { length nodes.now ≡ node_count commands.now }
     requires few { length nodes.now ≤ NODE_LIMIT }
-    ensures text { IfOk result (λ text. string_bytes text ≡ reports_text shape (records_left commands.now nodes.now []) commands.now) }
+    ensures text { IfOk result (λ told. string_bytes told.text ≡ reports_text shape (records_left commands.now nodes.now []) commands.now) }
+    ensures silent { IfOk result (λ told. told.silent ≡ silent_by (records_left commands.now nodes.now []) commands.now) }
     ensures only_memory { IsOkUnless result Fault.NoMemory }
 {
     let sets = sets_of(alloc, commands)?;
     let reports = reports_left(alloc, commands, sets.as_slice(), nodes, &[])?;
-    let text = shaped(alloc, shape, reports.as_slice(), commands)?;
-    Ok(text)
+    let told = reports_with(alloc, shape, reports.as_slice(), commands)?;
+    Ok(told)
 }
 
 /// A notice with the line of the input, in place of the line of the expanded script.
@@ -162,6 +214,56 @@ fn answer_of(
     }
 }
 
+/// Adds the line that says where to look, if there is nothing to tell.
+fn add_silence(notices: &mut String, silent: bool) -> Result<(), AllocError>
+    ensures { OnOk result (string_bytes notices.new ≡ string_bytes notices.old ++ silence_text silent) }
+{
+    if silent {
+        return notices.push_str(
+            "silent: no node applied a slot, and no line asks for a report; see bowls stand, bowls check\n",
+        );
+    }
+    Ok(())
+}
+
+/// The notices of a run, and the line that says where to look, if there is nothing to tell.
+fn lines_of_run(
+    alloc: Global,
+    expanded: &Expanded,
+    notices: Vec<Notice>,
+    silent: bool,
+) -> Result<String, AllocError>
+    ensures { IfOk result (λ text. string_bytes text ≡ notices_text (map (placed_notice expanded.now.lines) notices.items) ++ silence_text silent) }
+{
+    let mut text = lines_of_notices(alloc, expanded, notices)?;
+    add_silence(&mut text, silent)?;
+    Ok(text)
+}
+
+/// The answer made of these reports and the notices of their run.
+fn answer_of_run(
+    alloc: Global,
+    expanded: &Expanded,
+    told: Result<Reported, Fault>,
+    notices: Vec<Notice>,
+) -> Result<Answer, Failure>
+    ensures text { IfOk result (λ answer. IfOk told (λ told. answer.text.items ≡ string_bytes told.text)) }
+    ensures made { IfOk result (λ _. IsOk told) }
+    ensures notices { IfOk result (λ answer. IfOk told (λ told. string_bytes answer.notices ≡ notices_text (map (placed_notice expanded.now.lines) notices.items) ++ silence_text told.silent)) }
+    ensures cause { IfErr result (λ failure. failure ≡ Failure.NoMemory) }
+{
+    let Ok(Reported { text, silent }) = told else {
+        return Err(Failure::NoMemory);
+    };
+    match lines_of_run(alloc, expanded, notices, silent) {
+        Ok(notices) => Ok(Answer {
+            text: text.into_bytes(),
+            notices,
+        }),
+        Err(_) => Err(Failure::NoMemory),
+    }
+}
+
 /// Why a script wasn't played to its end.
 fn of_fault(expanded: &Expanded, fault: RunFault) -> Failure
     ensures { IsOfRun expanded.now fault result }
@@ -202,7 +304,7 @@ fn run_serial(alloc: Global, shape: Shape, given: &Given) -> Result<Answer, Fail
         notices,
     } = ran;
     let reports = reports_of(alloc, shape, network.nodes(), script.commands.as_slice());
-    answer_of(alloc, &given.expanded, reports, notices)
+    answer_of_run(alloc, &given.expanded, reports, notices)
 }
 
 /// The reports of a script whose nodes run in threads.
@@ -227,7 +329,7 @@ fn run_threads<T: Threads + Wait + Sync>(
     let commands = script.commands.as_slice();
     let _count = count_of_nodes(commands);
     let told = reports_gathered(alloc, shape, reports.as_slice(), commands);
-    answer_of(alloc, &given.expanded, told, notices)
+    answer_of_run(alloc, &given.expanded, told, notices)
 }
 
 /// The reports of a script that is played in this mode, with the notices of its run.

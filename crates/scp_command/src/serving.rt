@@ -1,24 +1,23 @@
 //! What the program does with a task that the words of a command line ask for.
 ghost use Rattle.std.specs.Prelude.{◌≡◌, ◌≢◌, ◌≤◌, ◌⊎◌, ℕ, List, [], length, IfOk, IfErr, string_bytes, codes};
-ghost use Rattle.scp_device.specs.Device.{Gains, Fails as HasFailed, IsAll};
-ghost use Rattle.scp_prompt.specs.Failing.{status_of as failure_status};
+ghost use Rattle.scp_script_short.specs.scp_device.specs.Device.{Gains, Fails as HasFailed, IsAll};
+ghost use Rattle.scp_convert.specs.scp_prompt.specs.Failing.{status_of as failure_status};
 ghost use Rattle.scp_command.specs.Answers.{Answers, IsHeadlinedFor};
 ghost use Rattle.scp_command.specs.Causes.{Fails};
 ghost use Rattle.scp_command.specs.inside.Reading.{unread_of};
-ghost use Rattle.scp_command.specs.Serving.{limit_of, status_of as answer_status, noticed, IsWritten, IsTold, IsUnread};
+ghost use Rattle.scp_command.specs.Serving.{status_of as answer_status, noticed, IsWritten, IsTold, IsUnread};
 
 use crate::answer::Answer;
 use crate::forms::{as_text, in_digits, slot};
 use crate::looks::{checked, drawn, quorums, traced};
-use crate::messages::{decoded, encoded};
 use crate::runs::{account, run};
-use scp_device::{ReportOut, ScriptIn, read_script, write_text};
-use scp_draw::Depth;
-use scp_notices::what_is_played_keeps_the_headlines;
-use scp_prompt::{
+use scp_convert::below::prompt::{
     Cause, Failure, LONG_LIMIT, Task, read_within, status, write_bytes, write_failure,
 };
-use scp_types::{Fault, SCRIPT_LIMIT};
+use scp_draw::Depth;
+use scp_notices::what_is_played_keeps_the_headlines;
+use scp_script_short::below::device::{ReportOut, ScriptIn, read_script, write_text};
+use scp_script_short::below::types::{Fault, SCRIPT_LIMIT};
 use std::alloc::Global;
 use std::sync::Wait;
 use std::thread::Threads;
@@ -44,7 +43,7 @@ fn unread(limit: usize, fault: Fault) -> Failure
     }
 }
 
-/// Reads a script whole, at most 1 MiB.
+/// Reads a script whole, at most 1 MiB: the limit of the fixed form.
 #[tactic(auto, using(crate::proofs::Told::is_unread, crate::proofs::Told::all_left))]
 pub fn read_short<R: ScriptIn>(alloc: Global, reader: &mut R) -> Result<Vec<u8>, Failure>
     ensures all { IfOk result (λ text. IsAll (R.left reader.old) text.items) }
@@ -57,9 +56,9 @@ pub fn read_short<R: ScriptIn>(alloc: Global, reader: &mut R) -> Result<Vec<u8>,
     }
 }
 
-/// Reads a longer input whole, at most 16 MiB.
+/// Reads an input whole, at most 16 MiB.
 #[tactic(auto, using(crate::proofs::Told::is_unread, crate::proofs::Told::all_left))]
-fn read_long<R: ScriptIn>(alloc: Global, reader: &mut R) -> Result<Vec<u8>, Failure>
+pub fn read_long<R: ScriptIn>(alloc: Global, reader: &mut R) -> Result<Vec<u8>, Failure>
     ensures all { IfOk result (λ text. IsAll (R.left reader.old) text.items) }
     ensures limit { IfOk result (λ text. length text.items ≤ LONG_LIMIT) }
     ensures cause { IfErr result (IsUnread LONG_LIMIT (R.left reader.old) (HasFailed (R.failures reader.old) (R.failures reader.new))) }
@@ -67,18 +66,6 @@ fn read_long<R: ScriptIn>(alloc: Global, reader: &mut R) -> Result<Vec<u8>, Fail
     match read_within(alloc, reader) {
         Ok(text) => Ok(text),
         Err(fault) => Err(unread(LONG_LIMIT, fault)),
-    }
-}
-
-/// Reads the whole input of a task.
-fn read_input<R: ScriptIn>(alloc: Global, task: Task, reader: &mut R) -> Result<Vec<u8>, Failure>
-    ensures all { IfOk result (λ text. IsAll (R.left reader.old) text.items) }
-    ensures limit { IfOk result (λ text. length text.items ≤ limit_of task) }
-    ensures cause { IfErr result (IsUnread (limit_of task) (R.left reader.old) (HasFailed (R.failures reader.old) (R.failures reader.new))) }
-{
-    match task {
-        Task::Hex | Task::Text | Task::Decode(_) | Task::Encode(_) => read_long(alloc, reader),
-        _ => read_short(alloc, reader),
     }
 }
 
@@ -103,14 +90,12 @@ fn answer<T: Threads + Wait + Sync>(
         Task::Quorums => quorums(alloc, text),
         Task::Hex => in_digits(alloc, text),
         Task::Text => as_text(alloc, text),
-        Task::Decode(coding) => decoded(alloc, coding, text),
-        Task::Encode(coding) => encoded(alloc, coding, text),
     }
 }
 
 /// Reports a failure of the input with this name and these bytes, if the stream of errors takes it, and returns its status.
 #[tactic(auto, using(crate::proofs::Told::told_by))]
-fn tell<E: ReportOut>(
+pub fn tell<E: ReportOut>(
     alloc: Global,
     name: &str,
     text: &[u8],
@@ -180,18 +165,18 @@ pub fn serve<T: Threads + Wait + Sync, R: ScriptIn + Cause, O: ReportOut + Cause
     ensures no_usage { result ≢ 2 }
     // 0 and 4 are returned only if the whole input was read, and exactly what the task makes of it was written to the output. It is 4 if
     // there are notices. They were written to the stream of errors, unless they were to be left out or that stream failed.
-    ensures done { result ≡ 0 ⊎ result ≡ 4 → (text : List ℕ) × (answer : Answer) × IsAll (R.left input.old) text × (length text ≤ limit_of order.entry.task) × Answers order.entry.task text answer × (result ≡ answer_status (string_bytes answer.notices)) × Gains (O.written output.old) answer.text.items (O.written output.new) × IsWritten E.written E.failures errors.old (noticed order.entry.quiet (string_bytes answer.notices)) errors.new }
+    ensures done { result ≡ 0 ⊎ result ≡ 4 → (text : List ℕ) × (answer : Answer) × IsAll (R.left input.old) text × (length text ≤ LONG_LIMIT) × Answers order.entry.task text answer × (result ≡ answer_status (string_bytes answer.notices)) × Gains (O.written output.old) answer.text.items (O.written output.new) × IsWritten E.written E.failures errors.old (noticed order.entry.quiet (string_bytes answer.notices)) errors.new }
     // If a script was played for its reports or its account, the headline holds for its nodes; it says what matters most.
     ensures headline { result ≡ 0 ⊎ result ≡ 4 → (text : List ℕ) × (answer : Answer) × IsAll (R.left input.old) text × IsHeadlinedFor order.entry.task text answer × Gains (O.written output.old) answer.text.items (O.written output.new) }
     // 1 and 3 are returned only for a failure. Exactly its line was written to the stream of errors, unless that stream failed. Nothing was
     // written to the output, unless the output itself failed.
     ensures failed { result ≢ 0 → result ≢ 4 →
-        ((failure : Failure) × (result ≡ failure_status failure) × IsUnread (limit_of order.entry.task) (R.left input.old) (HasFailed (R.failures input.old) (R.failures input.new)) failure × IsTold E.written E.failures errors.old order.entry.name.now [] (R.cause input.new) failure errors.new × (output.new ≡ output.old))
-        ⊎ ((failure : Failure) × (text : List ℕ) × (result ≡ failure_status failure) × IsAll (R.left input.old) text × (length text ≤ limit_of order.entry.task) × Fails order.entry.task text failure × IsTold E.written E.failures errors.old order.entry.name.now text [] failure errors.new × (output.new ≡ output.old))
+        ((failure : Failure) × (result ≡ failure_status failure) × IsUnread LONG_LIMIT (R.left input.old) (HasFailed (R.failures input.old) (R.failures input.new)) failure × IsTold E.written E.failures errors.old order.entry.name.now [] (R.cause input.new) failure errors.new × (output.new ≡ output.old))
+        ⊎ ((failure : Failure) × (text : List ℕ) × (result ≡ failure_status failure) × IsAll (R.left input.old) text × (length text ≤ LONG_LIMIT) × Fails order.entry.task text failure × IsTold E.written E.failures errors.old order.entry.name.now text [] failure errors.new × (output.new ≡ output.old))
         ⊎ ((result ≡ 3) × HasFailed (O.failures output.old) (O.failures output.new) × IsTold E.written E.failures errors.old (codes "<stdout>") [] (O.cause output.new) Failure.Unwritten errors.new) }
 {
     what_is_played_keeps_the_headlines();
-    match read_input(alloc, order.task, input) {
+    match read_long(alloc, input) {
         Err(failure) => tell(alloc, order.name, &[], input.cause(), &failure, errors),
         Ok(text) => match answer(rt, alloc, order.task, text.as_slice()) {
             Ok(answer) => finish(alloc, &answer, order.quiet, output, errors),

@@ -2,18 +2,18 @@
 use Rattle.std.proofs.Common.{◌≡◌, ℕ, List, ◌++◌, sym, ◌∙◌, ap, append_assoc, take, drop}
 use Rattle.std.specs.Prelude.{Some, slice_get, option_to_list}
 use Rattle.std.proofs.lemmas.List.{take-append-drop}
-use Rattle.scp_driver.specs.Driver.{Says}
-use Rattle.scp_types.specs.declared.names.NodeId.{NodeId}
-use Rattle.scp_wire.specs.declared.link.Inbound.{Inbound}
-use Rattle.scp_wire.specs.LinkReading.{readings}
-use Rattle.scp_wire.specs.Shape.{of_peer}
+use Rattle.scp_theorem.specs.scp_driver.specs.Driver.{Says}
+use Rattle.scp_theorem.specs.scp_types.specs.declared.names.NodeId.{NodeId}
+use Rattle.scp_theorem.specs.scp_wire.specs.declared.link.Inbound.{Inbound}
+use Rattle.scp_theorem.specs.scp_wire.specs.LinkReading.{readings}
+use Rattle.scp_theorem.specs.scp_wire.specs.Shape.{of_peer}
 use Rattle.scp_theorem.specs.Account.{Account, Ran}
 use Rattle.scp_theorem.specs.Kept.{KeepsLedger}
 use Rattle.scp_core.specs.Flow.{Flows}
 use Rattle.scp_core.specs.History.{Past, readings_of, read_so_far}
 use Rattle.scp_core.specs.Ledger.{upcoming_of}
 use Rattle.scp_core.specs.Node.{LinkView, NodeView}
-use Rattle.scp_core.proofs.Below.{ReadLaws, Laws}
+use Rattle.scp_core.proofs.StageLaws.{ReadLaws, Laws}
 use Rattle.scp_core.proofs.Links.{whole, front}
 use Rattle.scp_theorem.proofs.Basics.{there_is}
 use Rattle.scp_core.proofs.Queues.{within}
@@ -69,7 +69,7 @@ module _ {D : Type 0} (says : Says D) where
     applied = f.applied;
     decided = f.decided;
     applies = f.applier;
-    first = f.first.1;
+    first = f.first;
   }
 
   -- so it keeps the ledger

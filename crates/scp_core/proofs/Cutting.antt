@@ -1,7 +1,7 @@
 -- What is shown of a ledger that runs is all of it.
 use Rattle.std.proofs.Common.{◌≡◌, Option, Some, None, false, refl}
 use Rattle.scp_core.specs.declared.stage.Shown.{Shown}
-use Rattle.scp_ledger.specs.Seen.{LedgerView}
+use Rattle.scp_theorem.specs.scp_ledger.specs.Seen.{LedgerView}
 use Rattle.scp_core.specs.inside.Stage.{shown}
 
 module _ {D : Type 0} where

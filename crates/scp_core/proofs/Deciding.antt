@@ -5,27 +5,27 @@ use Rattle.std.specs.List.Sorted.{IsPermutation}
 use Rattle.std.proofs.lemmas.List.{append-nil}
 use Rattle.std.proofs.lemmas.Grind.{flat_map-append}
 use Rattle.std.proofs.lemmas.List.Sorted.{IsPermutation-append, IsPermutation-refl, IsPermutation-trans}
-use Rattle.scp_driver.specs.Driver.{Says}
-use Rattle.scp_types.specs.declared.names.NodeId.{NodeId}
-use Rattle.scp_quorum.specs.QuorumTree.{QuorumTree}
-use Rattle.scp_driver.specs.declared.driver.Level.{Level}
-use Rattle.scp_wire.specs.declared.message.Message.{Message}
-use Rattle.scp_pending.specs.declared.ready.Ready.{Ready}
-use Rattle.scp_ledger.specs.declared.journal.Decision.{Decision}
-use Rattle.scp_ledger.specs.declared.took.Onward.{Onward}
-use Rattle.scp_ledger.specs.declared.took.Onward.TheVariants.{Decided, Asked}
-use Rattle.scp_ledger.specs.declared.took.Took.{Took}
-use Rattle.scp_ledger.specs.Decisions.{AreInWindow, IsNext}
-use Rattle.scp_ledger.specs.Journals.{IsToAll, TakesGrow, JournalsPass}
-use Rattle.scp_ledger.specs.Ledger.{IsLedger}
-use Rattle.scp_ledger.specs.Onwards.{decision_on, decisions_on}
-use Rattle.scp_ledger.specs.Runs.{nothing_taken}
-use Rattle.scp_apply.specs.Applier.{ApplierView, IsApplier, IsRunning, CanTake}
-use Rattle.scp_apply.specs.Applier.{Takes as ApplierTakes}
-use Rattle.scp_apply.specs.Applies.{Applies, AppliesPass}
-use Rattle.scp_apply.specs.Laws.{NextCanBeTaken}
-use Rattle.scp_ledger.specs.Seen.{LedgerView}
-use Rattle.scp_ledger.specs.By.{TakesBy, RunsBy, JournalsBy}
+use Rattle.scp_theorem.specs.scp_driver.specs.Driver.{Says}
+use Rattle.scp_theorem.specs.scp_types.specs.declared.names.NodeId.{NodeId}
+use Rattle.scp_theorem.specs.scp_quorum.specs.QuorumTree.{QuorumTree}
+use Rattle.scp_theorem.specs.scp_driver.specs.declared.driver.Level.{Level}
+use Rattle.scp_theorem.specs.scp_wire.specs.declared.message.Message.{Message}
+use Rattle.scp_theorem.specs.scp_pending.specs.declared.ready.Ready.{Ready}
+use Rattle.scp_theorem.specs.scp_ledger.specs.declared.journal.Decision.{Decision}
+use Rattle.scp_theorem.specs.scp_ledger.specs.declared.took.Onward.{Onward}
+use Rattle.scp_theorem.specs.scp_ledger.specs.declared.took.Onward.TheVariants.{Decided, Asked}
+use Rattle.scp_theorem.specs.scp_ledger.specs.declared.took.Took.{Took}
+use Rattle.scp_theorem.specs.scp_ledger.specs.Decisions.{AreInWindow, IsNext}
+use Rattle.scp_theorem.specs.scp_ledger.specs.Journals.{IsToAll, TakesGrow, JournalsPass}
+use Rattle.scp_theorem.specs.scp_ledger.specs.Ledger.{IsLedger}
+use Rattle.scp_theorem.specs.scp_ledger.specs.Onwards.{decision_on, decisions_on}
+use Rattle.scp_theorem.specs.scp_ledger.specs.Runs.{nothing_taken}
+use Rattle.scp_theorem.specs.scp_apply.specs.Applier.{ApplierView, IsApplier, IsRunning, CanTake}
+use Rattle.scp_theorem.specs.scp_apply.specs.Applier.{Takes as ApplierTakes}
+use Rattle.scp_theorem.specs.scp_apply.specs.Applies.{Applies, AppliesPass}
+use Rattle.scp_theorem.specs.scp_apply.specs.Laws.{NextCanBeTaken}
+use Rattle.scp_theorem.specs.scp_ledger.specs.Seen.{LedgerView}
+use Rattle.scp_theorem.specs.scp_ledger.specs.By.{TakesBy, RunsBy, JournalsBy}
 use Rattle.scp_theorem.proofs.Basics.{take_front}
 use Rattle.scp_core.specs.Node.{said_in}
 use Rattle.scp_core.specs.inside.Decider.{DeciderView, IsSound}
@@ -138,3 +138,8 @@ takes_runs old (Asked link slot) answer new runs takes = ap (λ (v : ApplierView
 pub first_stays : (old : ApplierView) (x : Onward) (answer : Option (ℕ × Message)) (new : ApplierView) → ApplierTakes old x answer new → new.first ≡ old.first
 first_stays old (Decided d) answer new takes = takes.1.first
 first_stays old (Asked link slot) answer new takes = ap (λ (v : ApplierView). v.first) takes.1
+
+-- and the bytes with which it began
+pub base_stays : (old : ApplierView) (x : Onward) (answer : Option (ℕ × Message)) (new : ApplierView) → ApplierTakes old x answer new → new.base ≡ old.base
+base_stays old (Decided d) answer new takes = takes.1.base
+base_stays old (Asked link slot) answer new takes = ap (λ (v : ApplierView). v.base) takes.1

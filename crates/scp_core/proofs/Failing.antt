@@ -1,8 +1,8 @@
 -- The step at which a node failed, and what was before it.
-use Rattle.std.proofs.Common.{◌≡◌, Bool, true, false, List, [], ◌∷◌, ◌++◌, refl, sym, ◌∙◌, ap, subst, inl, inr, ◌⊎◌}
+use Rattle.std.proofs.Common.{◌≡◌, ℕ, Bool, true, false, List, [], ◌∷◌, ◌++◌, refl, sym, ◌∙◌, ap, subst, inl, inr, ◌⊎◌}
 use Rattle.std.specs.Prelude.{fold}
 use Rattle.std.specs.List.{AllByRecursion}
-use Rattle.scp_driver.specs.Driver.{Says}
+use Rattle.scp_theorem.specs.scp_driver.specs.Driver.{Says}
 use Rattle.scp_core.specs.declared.config.Config.{Config}
 use Rattle.scp_core.specs.declared.event.Event.{Event}
 use Rattle.scp_core.specs.declared.event.Reply.{Reply}
@@ -11,8 +11,8 @@ use Rattle.scp_core.specs.Flow.{Flows}
 use Rattle.scp_core.specs.History.{Exchange, Past, hears, past_of, nothing_heard}
 use Rattle.scp_core.specs.Ledger.{IsFailure}
 use Rattle.scp_core.specs.Node.{NodeView, Step, Fails}
-use Rattle.scp_core.specs.Theorem.{made, WasStep, IsReply, AreSteps, LedgerTheorem}
-use Rattle.scp_core.proofs.Holding.{past-runs, past-goes, keeps-refl}
+use Rattle.scp_core.specs.Theorem.{begun, WasStep, IsReply, AreSteps, LedgerTheoremFrom}
+use Rattle.scp_core.proofs.Holding.{Began, accepts-began, moves-began, sends-began, past-runs, past-goes, keeps-refl}
 
 true_isnt : true ≡ false → ⊥
 true_isnt e = cc
@@ -60,10 +60,28 @@ module _ {D : Type 0} (says : Says D) where
       let rest = silent c xs (hears c p x.0 x.1) a.0 last still a.2 in
       (rest.0 ∙ none.1, (none.0, rest.1))
 
+  -- an exchange that doesn't fail the node leaves with what it began
+  runs_began : (first : ℕ) (base : List ℕ) (c : Config) (p : Past) (old new : NodeView D) (event : Event) (reply : Reply) → (hears c p event reply).failed ≡ false → Step says old event reply new → Began first base old → Began first base new
+  runs_began first base c p old new event Accepted stays s b = accepts-began first base old new event s.1 b
+  runs_began first base c p old new event Moved stays s b = moves-began says first base old new event s.1 b
+  runs_began first base c p old new event (Sent bytes) stays s b = sends-began first base old new event bytes s.1 b
+  runs_began first base c p old new event Failed stays s b = subst (λ (v : NodeView D). Began first base v) (sym s.1) b
+  runs_began first base c p old new event NoLink stays s b = subst (λ (v : NodeView D). Began first base v) (sym s.2) b
+  runs_began first base c p old new event AlreadyOpen stays s b = subst (λ (v : NodeView D). Began first base v) (sym s.2) b
+  runs_began first base c p old new event LivesSpent stays s b = subst (λ (v : NodeView D). Began first base v) (sym s.2) b
+  runs_began first base c p old new event NotOpen stays s b = subst (λ (v : NodeView D). Began first base v) (sym s.2) b
+  runs_began first base c p old new event Full stays s b = subst (λ (v : NodeView D). Began first base v) (sym s.2) b
+  runs_began first base c p old new event Blocked stays s b = subst (λ (v : NodeView D). Began first base v) (sym s.2) b
+  runs_began first base c p old new event Idle stays s b = subst (λ (v : NodeView D). Began first base v) (sym s.2) b
+  runs_began first base c p old new event JournalFull stays s b = absurd (true_isnt stays)
+  runs_began first base c p old new event NoMemory stays s b = absurd (true_isnt stays)
+
+module _ {D : Type 0} (says : Says D) (first : ℕ) (base : List ℕ) where
   -- the exchanges before it, and the node that they left; the exchange that failed it; those after it
   record FailsAt (c : Config) (p : Past) (v : NodeView D) (xs : List Exchange) (last : NodeView D) : Type 0 where
     before : List Exchange
     moment : NodeView D
+    began : Began first base moment
     steps : AreSteps says c p v before moment
     event : Event
     reply : Reply
@@ -77,14 +95,15 @@ module _ {D : Type 0} (says : Says D) where
     fails : Fails moment event last
     silent_then : AllByRecursion (λ (x : Exchange). x.1 ≡ Failed) later
 
-  at_first : (c : Config) (x : Exchange) (xs : List Exchange) (p : Past) (v last : NodeView D) → p.failed ≡ false → (hears c p x.0 x.1).failed ≡ true → AreSteps says c p v (x ∷ xs) last → FailsAt c p v (x ∷ xs) last
-  at_first c x xs p v last was now a =
-      let w = was_step c p v a.0 x.0 x.1 was a.1 in
-      let f = failing c p v a.0 x.0 x.1 was now w.step in
-      let rest = silent c xs (hears c p x.0 x.1) a.0 last now a.2 in
+  at_first : (c : Config) (x : Exchange) (xs : List Exchange) (p : Past) (v last : NodeView D) → p.failed ≡ false → (hears c p x.0 x.1).failed ≡ true → Began first base v → AreSteps says c p v (x ∷ xs) last → FailsAt c p v (x ∷ xs) last
+  at_first c x xs p v last was now b a =
+      let w = was_step says c p v a.0 x.0 x.1 was a.1 in
+      let f = failing says c p v a.0 x.0 x.1 was now w.step in
+      let rest = silent says c xs (hears c p x.0 x.1) a.0 last now a.2 in
       record {
         before = [];
         moment = v;
+        began = b;
         steps = refl;
         event = x.0;
         reply = x.1;
@@ -103,6 +122,7 @@ module _ {D : Type 0} (says : Says D) where
   at_later c x xs p v next last r h = record {
     before = x ∷ h.before;
     moment = h.moment;
+    began = h.began;
     steps = (next, r, h.steps);
     event = h.event;
     reply = h.reply;
@@ -117,18 +137,18 @@ module _ {D : Type 0} (says : Says D) where
     silent_then = h.silent_then;
   }
 
-  fails_at : (c : Config) (xs : List Exchange) (p : Past) (v last : NodeView D) → p.failed ≡ false → (fold (λ q y. hears c q y.0 y.1) p xs).failed ≡ true → AreSteps says c p v xs last → FailsAt c p v xs last
-  fails_at c [] p v last was now a = absurd (true_isnt (sym now ∙ was))
-  fails_at c (x ∷ xs) p v last was now a = elim (which (hears c p x.0 x.1).failed) [
-    | inl fell ↦ at_first c x xs p v last was fell a
-    | inr stays ↦ at_later c x xs p v a.0 last a.1 (fails_at c xs (hears c p x.0 x.1) a.0 last stays now a.2)
+  fails_at : (c : Config) (xs : List Exchange) (p : Past) (v last : NodeView D) → p.failed ≡ false → (fold (λ q y. hears c q y.0 y.1) p xs).failed ≡ true → Began first base v → AreSteps says c p v xs last → FailsAt c p v xs last
+  fails_at c [] p v last was now b a = absurd (true_isnt (sym now ∙ was))
+  fails_at c (x ∷ xs) p v last was now b a = elim (which (hears c p x.0 x.1).failed) [
+    | inl fell ↦ at_first c x xs p v last was fell b a
+    | inr stays ↦ at_later c x xs p v a.0 last a.1 (fails_at c xs (hears c p x.0 x.1) a.0 last stays now (runs_began says first base c p v a.0 x.0 x.1 stays (was_step says c p v a.0 x.0 x.1 was a.1).step b) a.2)
   ]
 
   -- what held of the exchanges before, and of the node then
   pub record Failure (past : List Exchange) (v : NodeView D) : Type 0 where
     pub earlier : List Exchange
     pub moment : NodeView D
-    pub theorem : LedgerTheorem says earlier moment
+    pub theorem : LedgerTheoremFrom says first base earlier moment
     pub event : Event
     pub reply : Reply
     pub reply_fails : IsFailure reply
@@ -138,17 +158,18 @@ module _ {D : Type 0} (says : Says D) where
     pub fails : Fails moment event v
     pub silent_then : AllByRecursion (λ (x : Exchange). x.1 ≡ Failed) later
 
-  pub failure_of : (past : List Exchange) (v : NodeView D) → LedgerTheorem says past v → v.failed ≡ true → Failure past v
+  pub failure_of : (past : List Exchange) (v : NodeView D) → LedgerTheoremFrom says first base past v → v.failed ≡ true → Failure past v
   failure_of past v h failed =
-      let x = fails_at v.config past nothing_heard (made h.driver v.config) v refl (sym h.failed ∙ failed) h.replies in
+      let x = fails_at v.config past nothing_heard (begun h.driver v.config first base) v refl (sym h.failed ∙ failed) (refl, refl) h.replies in
       record {
         earlier = x.before;
         moment = x.moment;
         theorem = record {
           driver = h.driver;
-          replies = subst (λ (d : Config). AreSteps says d nothing_heard (made h.driver d) x.before x.moment) (sym x.config) x.steps;
+          replies = subst (λ (d : Config). AreSteps says d nothing_heard (begun h.driver d first base) x.before x.moment) (sym x.config) x.steps;
           failed = x.fails.was ∙ sym (subst (λ (d : Config). (past_of d x.before).failed ≡ false) (sym x.config) x.past);
           moment = x.moment;
+          began = x.began;
           flows = subst (λ (d : Config). Flows says (past_of d x.before) x.moment) (sym x.config) x.flows;
           now = λ _. refl;
           keeps = keeps-refl x.moment;

@@ -1,7 +1,7 @@
 -- Why a node failed, step by step.
 use Rattle.std.proofs.Common.{◌≡◌, ℕ, List, ap, inl, inr, Option}
-use Rattle.scp_driver.specs.Driver.{Says}
-use Rattle.scp_types.specs.declared.fault.Fault.{Fault}
+use Rattle.scp_theorem.specs.scp_driver.specs.Driver.{Says}
+use Rattle.scp_theorem.specs.scp_types.specs.declared.fault.Fault.{Fault}
 use Rattle.scp_core.specs.declared.event.Event.{Event}
 use Rattle.scp_core.specs.declared.event.Event.TheVariants.{Open, Send, Close, Local, ReaderTake, ReaderPut, PendTake, PendPut, SlotTake, SlotPut, ApplyTake, Drain}
 use Rattle.scp_core.specs.declared.event.Reply.{Reply}

@@ -1,18 +1,18 @@
 -- Whatever the pending stage replies fits a link: the quorum sets that it stores are sane.
 use Rattle.std.proofs.Common.{◌≡◌, ℕ, Option, Some, None, sym, subst}
 use Rattle.std.specs.Prelude.{IfSome}
-use Rattle.scp_quorum.specs.QuorumTree.{QuorumTree}
-use Rattle.scp_quorum.specs.Sane.{IsSane}
-use Rattle.scp_types.specs.declared.names.Hash.{Hash}
-use Rattle.scp_wire.specs.declared.message.Message.{Message}
-use Rattle.scp_wire.specs.declared.message.Message.TheVariants.{Envelope, GetSet, Set, NoSet, GetRecord, Record, Records}
-use Rattle.scp_wire.specs.declared.link.Inbound.{Inbound}
-use Rattle.scp_wire.specs.Fitting.{IsFitting, NamesFit, SaneSetsFit}
-use Rattle.scp_fetch.specs.Store.{lookup}
-use Rattle.scp_pending.specs.Fetching.{IsReplied, IfReplied, RepliesAreAskedFor, TheLastAreStored}
-use Rattle.scp_pending.specs.Pends.{start_of}
-use Rattle.scp_pending.specs.Queues.{hash_of}
-use Rattle.scp_pending.specs.Rules.{Settled, settled_by, reply}
+use Rattle.scp_theorem.specs.scp_quorum.specs.QuorumTree.{QuorumTree}
+use Rattle.scp_theorem.specs.scp_quorum.specs.Sane.{IsSane}
+use Rattle.scp_theorem.specs.scp_types.specs.declared.names.Hash.{Hash}
+use Rattle.scp_theorem.specs.scp_wire.specs.declared.message.Message.{Message}
+use Rattle.scp_theorem.specs.scp_wire.specs.declared.message.Message.TheVariants.{Envelope, GetSet, Set, NoSet, GetRecord, Record, Records}
+use Rattle.scp_theorem.specs.scp_wire.specs.declared.link.Inbound.{Inbound}
+use Rattle.scp_theorem.specs.scp_wire.specs.Fitting.{IsFitting, NamesFit, SaneSetsFit}
+use Rattle.scp_theorem.specs.scp_fetch.specs.Store.{lookup}
+use Rattle.scp_theorem.specs.scp_pending.specs.Fetching.{IsReplied, IfReplied, RepliesAreAskedFor, TheLastAreStored}
+use Rattle.scp_theorem.specs.scp_pending.specs.Pends.{start_of}
+use Rattle.scp_theorem.specs.scp_pending.specs.Queues.{hash_of}
+use Rattle.scp_theorem.specs.scp_pending.specs.Rules.{Settled, settled_by, reply}
 use Rattle.scp_core.specs.Handed.{RepliesFit}
 
 module _ (names : NamesFit) (sets : SaneSetsFit) where

@@ -2,27 +2,27 @@
 use Rattle.std.proofs.Common.{◌≡◌, ◌≢◌, ◌+◌, ℕ, Bool, true, false, List, [], ◌∷◌, refl, sym, ◌∙◌, ap, subst, inl, inr, zero, suc, length}
 use Rattle.std.specs.Prelude.{◌↔◌, Option, Some, None, map, slice_get, slice_set, Result, Ok, Err, is_ok, OnOk, nat_lt, if◌then◌else◌}
 use Rattle.std.proofs.lemmas.Bool.{ltb-true, lt-ltb}
-use Rattle.scp_driver.specs.Driver.{Says}
-use Rattle.scp_types.specs.declared.fault.Fault.TheVariants as faults
-use Rattle.scp_types.specs.declared.names.NodeId.{NodeId}
-use Rattle.scp_wire.specs.declared.link.Inbound.{Inbound}
+use Rattle.scp_theorem.specs.scp_driver.specs.Driver.{Says}
+use Rattle.scp_theorem.specs.scp_types.specs.declared.fault.Fault.TheVariants as faults
+use Rattle.scp_theorem.specs.scp_types.specs.declared.names.NodeId.{NodeId}
+use Rattle.scp_theorem.specs.scp_wire.specs.declared.link.Inbound.{Inbound}
 use Rattle.scp_core.specs.declared.event.Event.{Event}
 use Rattle.scp_core.specs.declared.event.Event.TheVariants.{Open, Send, Close, ReaderTake, ReaderPut, SlotTake, ApplyTake, Drain}
 use Rattle.scp_core.specs.declared.event.Reply.{Reply}
 use Rattle.scp_core.specs.declared.event.Reply.TheVariants.{NoLink, AlreadyOpen, LivesSpent, NotOpen, Full, Accepted, Blocked, Idle, Moved, Sent, JournalFull, NoMemory}
-use Rattle.scp_pending.specs.declared.ready.Ready.{Ready}
-use Rattle.scp_pending.specs.Rules.{PendingView}
-use Rattle.scp_pending.specs.Pends.{Pends, IsSettled, IsIdle}
+use Rattle.scp_theorem.specs.scp_pending.specs.declared.ready.Ready.{Ready}
+use Rattle.scp_theorem.specs.scp_pending.specs.Rules.{PendingView}
+use Rattle.scp_theorem.specs.scp_pending.specs.Pends.{Pends, IsSettled, IsIdle}
 use Rattle.scp_core.specs.History.{peer_at}
 use Rattle.scp_core.specs.Node.{LinkView, NodeView, with_link, Step, Fails, LeavesRoom, Hands, said_in, life_of, room_in, room_of, room_at}
-use Rattle.scp_ledger.specs.Takes.{adds_entry}
-use Rattle.scp_ledger.specs.Seen.{LedgerView}
-use Rattle.scp_ledger.specs.By.{TakesBy, TellsBy}
-use Rattle.scp_wire.specs.declared.message.Message.{Message}
-use Rattle.scp_outbox.specs.Outbox.{OutboxView}
-use Rattle.scp_outbox.specs.Handing.{GivesAt, GivesThere}
-use Rattle.scp_apply.specs.Applier.{ApplierView}
-use Rattle.scp_apply.specs.Applier.{Takes as ApplierTakes}
+use Rattle.scp_theorem.specs.scp_ledger.specs.Takes.{adds_entry}
+use Rattle.scp_theorem.specs.scp_ledger.specs.Seen.{LedgerView}
+use Rattle.scp_theorem.specs.scp_ledger.specs.By.{TakesBy, TellsBy}
+use Rattle.scp_theorem.specs.scp_wire.specs.declared.message.Message.{Message}
+use Rattle.scp_theorem.specs.scp_outbox.specs.Outbox.{OutboxView}
+use Rattle.scp_theorem.specs.scp_outbox.specs.Handing.{GivesAt, GivesThere}
+use Rattle.scp_theorem.specs.scp_apply.specs.Applier.{ApplierView}
+use Rattle.scp_theorem.specs.scp_apply.specs.Applier.{Takes as ApplierTakes}
 use Rattle.scp_core.specs.inside.Decider.{DeciderView, Decides, AppliesNext, Applies, Keeps}
 use Rattle.scp_core.specs.inside.Draining.{Draws, IsSpelt, empty_reply}
 use Rattle.scp_theorem.proofs.Basics.{set_else, set_there, there_is}

@@ -3,18 +3,18 @@ use Rattle.std.proofs.Common.{◌≡◌, ℕ, Bool, true, false, List, [], ◌�
 use Rattle.std.specs.Prelude.{IfSome, if◌then◌else◌}
 use Rattle.std.specs.List.{AllByRecursion}
 use Rattle.std.proofs.lemmas.List.{append-nil}
-use Rattle.scp_driver.specs.Driver.{Says}
-use Rattle.scp_apply.specs.Applied.{made_of}
+use Rattle.scp_theorem.specs.scp_driver.specs.Driver.{Says}
+use Rattle.scp_theorem.specs.scp_apply.specs.Applied.{made_of}
 use Rattle.scp_theorem.specs.Books.{LedgerKeepsHeadline}
 use Rattle.scp_theorem.specs.Headline.{Headline}
 use Rattle.scp_core.specs.declared.config.Config.{Config}
 use Rattle.scp_core.specs.declared.event.Reply.{Reply}
 use Rattle.scp_core.specs.declared.event.Reply.TheVariants.{Failed}
-use Rattle.scp_core.specs.Headline.{books_at, StepsTo, HoldsHeadline, LedgerGivesHeadline}
+use Rattle.scp_core.specs.Headline.{books_at, StepsTo, HoldsHeadlineFrom, LedgerGivesHeadlineFrom}
 use Rattle.scp_core.specs.History.{Exchange, Past, hears, nothing_heard}
-use Rattle.scp_core.specs.Ledger.{FailedAfter, HoldsLedger}
+use Rattle.scp_core.specs.Ledger.{FailedAfter, HoldsLedgerFrom}
 use Rattle.scp_core.specs.Node.{NodeView, Step}
-use Rattle.scp_core.specs.Theorem.{made, AreSteps}
+use Rattle.scp_core.specs.Theorem.{begun, AreSteps}
 use Rattle.scp_core.proofs.Failing.{failing}
 
 module _ {D : Type 0} (says : Says D) where
@@ -47,21 +47,28 @@ shows : {S : Type 0} (P : S → Type 0) (s : S) (b : Bool) → P s → IfSome (i
 shows P s true h = tt
 shows P s false h = h
 
-module _ {D S : Type 0} (says : Says D) (start : S) (after' : S → List ℕ → S) where
-  at_moment : (past : List Exchange) (v : NodeView D) (h : HoldsLedger says past v) → ((v.failed ≡ false) × (h.earlier ≡ past) × (h.moment ≡ v)) ⊎ FailedAfter says past h.earlier v h.moment → Headline (books_at h.earlier h.moment) → HoldsHeadline (Step says) start after' past v
+module _ {D S : Type 0} (says : Says D) (said : List ℕ → S) (after' : S → List ℕ → S) (first : ℕ) (base : List ℕ) where
+  at_moment : (past : List Exchange) (v : NodeView D) (h : HoldsLedgerFrom says first base past v) → ((v.failed ≡ false) × (h.earlier ≡ past) × (h.moment ≡ v)) ⊎ FailedAfter says past h.earlier v h.moment → Headline (books_at h.earlier h.moment) → HoldsHeadlineFrom (Step says) said after' first base past v
   at_moment past v h (inl (runs, all, now)) headline = record {
     earlier = h.earlier;
     later = [];
     past_is = sym all ∙ sym (append-nil h.earlier);
     driver = h.driver;
     moment = h.moment;
-    before = leads says v.config nothing_heard (made h.driver v.config) h.moment h.earlier (λ e. e) h.steps;
+    before = leads says v.config nothing_heard (begun h.driver v.config first base) h.moment h.earlier (λ e. e) h.steps;
     since = sym now;
     runs = h.runs;
     is = inl refl;
     config = ap (λ (u : NodeView D). u.config) now;
     first = h.first;
-    headline = record { headline = headline; state_is = shows (λ s. s ≡ made_of start after' h.moment.applier.applied) (made_of start after' v.applier.applied) v.failed (ap (λ (u : NodeView D). made_of start after' u.applier.applied) (sym now)) };
+    base = h.base;
+    headline = record {
+      headline = headline;
+      state_is =
+          let same : v.applier.base ≡ base = ap (λ (u : NodeView D). u.applier.base) (sym now) ∙ h.base in
+          shows (λ s. s ≡ made_of (said base) after' h.moment.applier.applied) (made_of (said v.applier.base) after' v.applier.applied) v.failed
+          (ap (λ (bytes : List ℕ). made_of (said bytes) after' v.applier.applied) same ∙ ap (λ (u : NodeView D). made_of (said base) after' u.applier.applied) (sym now));
+    };
   }
   at_moment past v h (inr f) headline = record {
     earlier = h.earlier;
@@ -69,14 +76,15 @@ module _ {D S : Type 0} (says : Says D) (start : S) (after' : S → List ℕ →
     past_is = f.past_is;
     driver = h.driver;
     moment = h.moment;
-    before = leads says v.config nothing_heard (made h.driver v.config) h.moment h.earlier (λ e. e) h.steps;
+    before = leads says v.config nothing_heard (begun h.driver v.config first base) h.moment h.earlier (λ e. e) h.steps;
     since = (v, f.step, stays says v f.later f.failed f.silent);
     runs = h.runs;
     is = inr (record { failed = f.failed; silent = f.silent; journal = f.keeps.journal; decisions = f.keeps.decisions; applied = f.keeps.applied });
     config = sym f.keeps.config;
     first = h.first;
-    headline = record { headline = headline; state_is = shows_none (λ s. s ≡ made_of start after' h.moment.applier.applied) (made_of start after' v.applier.applied) v.failed f.failed };
+    base = h.base;
+    headline = record { headline = headline; state_is = shows_none (λ s. s ≡ made_of (said base) after' h.moment.applier.applied) (made_of (said v.applier.base) after' v.applier.applied) v.failed f.failed };
   }
 
-  pub ledger_gives_headline : LedgerKeepsHeadline says.level says.extracted says.combined says.place → LedgerGivesHeadline says start after'
+  pub ledger_gives_headline : LedgerKeepsHeadline says.level says.extracted says.combined says.place → LedgerGivesHeadlineFrom says said after' first base
   ledger_gives_headline law = λ past v h. at_moment past v h h.is (law _ h.keeps)

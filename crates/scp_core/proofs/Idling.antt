@@ -1,11 +1,11 @@
 -- Where the pending stage is idle.
 use Rattle.std.proofs.Common.{◌≡◌, ◌++◌, ◌∙◌, ap, subst}
 use Rattle.std.proofs.lemmas.List.{append-nil}
-use Rattle.scp_driver.specs.Driver.{Says}
-use Rattle.scp_quorum.specs.QuorumTree.{QuorumTree}
-use Rattle.scp_pending.specs.Causes.{IsSettledBy}
-use Rattle.scp_pending.specs.Pends.{IsSettled, start_of as started}
-use Rattle.scp_pending.specs.Rules.{Settled, fresh, settled_by}
+use Rattle.scp_theorem.specs.scp_driver.specs.Driver.{Says}
+use Rattle.scp_theorem.specs.scp_quorum.specs.QuorumTree.{QuorumTree}
+use Rattle.scp_theorem.specs.scp_pending.specs.Causes.{IsSettledBy}
+use Rattle.scp_theorem.specs.scp_pending.specs.Pends.{IsSettled, start_of as started}
+use Rattle.scp_theorem.specs.scp_pending.specs.Rules.{Settled, fresh, settled_by}
 use Rattle.scp_theorem.specs.Grounds.{start_of}
 use Rattle.scp_core.specs.declared.config.Config.{Config}
 use Rattle.scp_core.specs.declared.event.Event.TheVariants.{PendTake}

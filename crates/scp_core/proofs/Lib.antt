@@ -1,6 +1,6 @@
 pub mod Queues
 pub mod Deciding
-pub mod Below
+pub mod StageLaws
 pub mod Links
 pub mod Staging
 pub mod Steps

@@ -3,15 +3,15 @@ use Rattle.std.proofs.Common.{◌≡◌, ℕ, suc, ◌+◌, ◌-◌, ◌≤◌, 
 use Rattle.std.specs.Prelude.{option_to_list}
 use Rattle.std.proofs.lemmas.List.{take-append-drop, take-append-le, drop-append-le}
 use Rattle.std.proofs.lemmas.List.Sums.{fold_push}
-use Rattle.scp_types.specs.declared.names.NodeId.{NodeId}
-use Rattle.scp_wire.specs.declared.link.LinkItem.{LinkItem}
-use Rattle.scp_wire.specs.declared.link.Inbound.{Inbound}
-use Rattle.scp_wire.specs.LinkReading.{ReaderView, unread, reading, readings, after, after_all, first_of}
-use Rattle.scp_wire.specs.Shape.{goes, MayGo, never_open, AreInOrder, nothing_came}
+use Rattle.scp_theorem.specs.scp_types.specs.declared.names.NodeId.{NodeId}
+use Rattle.scp_theorem.specs.scp_wire.specs.declared.link.LinkItem.{LinkItem}
+use Rattle.scp_theorem.specs.scp_wire.specs.declared.link.Inbound.{Inbound}
+use Rattle.scp_theorem.specs.scp_wire.specs.LinkReading.{ReaderView, unread, reading, readings, after, after_all, first_of}
+use Rattle.scp_theorem.specs.scp_wire.specs.Shape.{goes, MayGo, never_open, AreInOrder, nothing_came}
 use Rattle.scp_core.specs.History.{OnLink, tail_of, readings_of, read_so_far}
 use Rattle.scp_core.specs.Node.{LinkView}
 use Rattle.scp_core.specs.Flow.{LinkFlows}
-use Rattle.scp_core.proofs.Below.{ReadLaws}
+use Rattle.scp_core.proofs.StageLaws.{ReadLaws}
 use Rattle.scp_core.proofs.Queues.{drop-next}
 
 -- an item more at the tail

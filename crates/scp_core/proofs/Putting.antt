@@ -2,16 +2,16 @@
 use Rattle.std.proofs.Common.{◌≡◌, ◌≢◌, ℕ, true, false, List, [], ◌∷◌, refl, sym, ◌∙◌, ap, subst, inl, inr, zero, suc}
 use Rattle.std.specs.Prelude.{Option, Some, None, Result, Ok, Err, OnErr, slice_get, slice_set}
 use Rattle.std.proofs.lemmas.List.{append-nil}
-use Rattle.scp_driver.specs.Driver.{Says}
-use Rattle.scp_wire.specs.declared.message.Message.{Message}
-use Rattle.scp_wire.specs.declared.message.Message.TheVariants.{Envelope}
-use Rattle.scp_envelope.specs.declared.statement.Envelope.{Envelope as Enveloped}
-use Rattle.scp_wire.specs.Boxed.{Boxed}
-use Rattle.scp_outbox.specs.Outbox.{OutboxView}
-use Rattle.scp_wire.specs.Fitting.{IsFitting}
-use Rattle.scp_outbox.specs.Handing.{PutsAll, HandsOut, to_link, to_each}
-use Rattle.scp_ledger.specs.declared.took.Outgoing.{Outgoing}
-use Rattle.scp_ledger.specs.declared.took.Outgoing.TheVariants.{ToAll, To}
+use Rattle.scp_theorem.specs.scp_driver.specs.Driver.{Says}
+use Rattle.scp_theorem.specs.scp_wire.specs.declared.message.Message.{Message}
+use Rattle.scp_theorem.specs.scp_wire.specs.declared.message.Message.TheVariants.{Envelope}
+use Rattle.scp_theorem.specs.scp_envelope.specs.declared.statement.Envelope.{Envelope as Enveloped}
+use Rattle.scp_theorem.specs.scp_wire.specs.Boxed.{Boxed}
+use Rattle.scp_theorem.specs.scp_outbox.specs.Outbox.{OutboxView}
+use Rattle.scp_theorem.specs.scp_wire.specs.Fitting.{IsFitting}
+use Rattle.scp_theorem.specs.scp_outbox.specs.Handing.{PutsAll, HandsOut, to_link, to_each}
+use Rattle.scp_theorem.specs.scp_ledger.specs.declared.took.Outgoing.{Outgoing}
+use Rattle.scp_theorem.specs.scp_ledger.specs.declared.took.Outgoing.TheVariants.{ToAll, To}
 use Rattle.scp_theorem.specs.Handed.{handed_by, out_of}
 use Rattle.scp_core.specs.declared.event.Event.{Event}
 use Rattle.scp_core.specs.declared.event.Event.TheVariants.{ReaderTake, ReaderPut, PendTake, PendPut, SlotTake, SlotPut, ApplyTake, Drain}
@@ -19,7 +19,7 @@ use Rattle.scp_core.specs.declared.event.Reply.{Reply}
 use Rattle.scp_core.specs.declared.event.Reply.TheVariants.{Failed, Accepted, Moved, Sent, Idle, NoLink, JournalFull, NoMemory}
 use Rattle.scp_core.specs.Node.{NodeView, Step, Hands, HandsOne, HandsEach, Moves}
 use Rattle.scp_core.specs.Handed.{HandedAt, StepsPutAll, IsDrained, DrainsGiveNext}
-use Rattle.scp_pending.specs.Rules.{reply as reply_to}
+use Rattle.scp_theorem.specs.scp_pending.specs.Rules.{reply as reply_to}
 
 -- ---- one answer, one message for all
 

@@ -1,15 +1,15 @@
 -- Lengths of queues, and lives.
 use Rattle.std.proofs.Common.{◌≡◌, ℕ, ◌+◌, List, [], ◌∷◌, refl, sym, ◌∙◌, ap, subst, arith, length, length-append, length-drop, zero, suc}
 use Rattle.std.specs.Prelude.{Some, map, slice_get, fold, ◌-◌}
-use Rattle.scp_driver.specs.Driver.{Says}
-use Rattle.scp_types.specs.declared.names.NodeId.{NodeId}
-use Rattle.scp_wire.specs.declared.link.LinkItem.{LinkItem}
-use Rattle.scp_wire.specs.declared.link.LinkItem.TheVariants.{Opened, Bytes, Closed}
-use Rattle.scp_wire.specs.Shape.{Tail, goes, never_open}
+use Rattle.scp_theorem.specs.scp_driver.specs.Driver.{Says}
+use Rattle.scp_theorem.specs.scp_types.specs.declared.names.NodeId.{NodeId}
+use Rattle.scp_theorem.specs.scp_wire.specs.declared.link.LinkItem.{LinkItem}
+use Rattle.scp_theorem.specs.scp_wire.specs.declared.link.LinkItem.TheVariants.{Opened, Bytes, Closed}
+use Rattle.scp_theorem.specs.scp_wire.specs.Shape.{Tail, goes, never_open}
 use Rattle.scp_core.specs.History.{Exchange, Past, past_of, tail_of}
 use Rattle.scp_core.specs.Node.{NodeView, LinkView, life_of, lives_of, room_of}
 use Rattle.scp_core.specs.Flow.{Flows, LinkFlows}
-use Rattle.scp_core.specs.Theorem.{LedgerTheorem}
+use Rattle.scp_core.specs.Theorem.{LedgerTheoremFrom}
 use Rattle.scp_core.specs.Room.{opens_in, LinkHasRoom, RunningHasRoom, FailedHasRoom, HasRoom, TheoremGivesRoom}
 use Rattle.scp_core.proofs.Failing.{Failure, failure_of}
 use Rattle.scp_theorem.proofs.Basics.{there_is}
@@ -72,7 +72,8 @@ module _ {D : Type 0} (says : Says D) where
     inbox = omega (arith, ap length f.inbox, length-append f.arrived v.inbox);
   }
 
-  failed_room : (past : List Exchange) (v : NodeView D) → Failure says past v → FailedHasRoom past v
+module _ {D : Type 0} (says : Says D) (first : ℕ) (base : List ℕ) where
+  failed_room : (past : List Exchange) (v : NodeView D) → Failure says first base past v → FailedHasRoom past v
   failed_room past v f =
       let h = f.theorem in
       record {
@@ -83,18 +84,19 @@ module _ {D : Type 0} (says : Says D) where
         later = f.later;
         past_is = f.is;
         moment = f.moment;
-        was = running (past_of f.moment.config f.earlier) f.moment (subst (λ (w : NodeView D). Flows says (past_of f.moment.config f.earlier) w) (sym (h.now f.fails.was)) h.flows);
+        was = running says (past_of f.moment.config f.earlier) f.moment (subst (λ (w : NodeView D). Flows says (past_of f.moment.config f.earlier) w) (sym (h.now f.fails.was)) h.flows);
         left = f.fails.room;
       }
 
-  rooms : (past : List Exchange) (v : NodeView D) → LedgerTheorem says past v → HasRoom past v
+  rooms : (past : List Exchange) (v : NodeView D) → LedgerTheoremFrom says first base past v → HasRoom past v
   rooms past v h =
       let p = past_of v.config past in
       record {
         lives = λ l k there. let other = same_place v.links h.moment.links l k h.keeps.lives there in ap lives_of there ∙ other.2 ∙ lives_of_link says p h.moment h.flows l other.0 other.1;
-        running = λ runs. running p v (subst (λ (w : NodeView D). Flows says p w) (sym (h.now runs)) h.flows);
-        failed = λ failed. failed_room past v (failure_of says past v h failed);
+        running = λ runs. running says p v (subst (λ (w : NodeView D). Flows says p w) (sym (h.now runs)) h.flows);
+        failed = λ failed. failed_room past v (failure_of says first base past v h failed);
       }
 
+module _ {D : Type 0} (says : Says D) where
   pub theorem_gives_room : TheoremGivesRoom says
-  theorem_gives_room = λ past v h. rooms past v h
+  theorem_gives_room = λ first base past v h. rooms says first base past v h

@@ -5,21 +5,21 @@ use Rattle.std.proofs.lemmas.List.{get_or_append_left, length-append}
 use Rattle.std.specs.List.{AllByRecursion}
 use Rattle.std.proofs.lemmas.List.Elements.{All-from_recursion, recursion_from_All}
 use Rattle.std.proofs.lemmas.List.Quantifiers.{Any-push}
-use Rattle.scp_driver.specs.Driver.{Says}
-use Rattle.scp_types.specs.declared.fault.Fault.{Fault}
-use Rattle.scp_types.specs.declared.fault.Fault.TheVariants.{NoMemory, JournalFull}
-use Rattle.scp_envelope.specs.declared.statement.Envelope.{Envelope}
-use Rattle.scp_outbox.specs.Outbox.{OutboxView}
-use Rattle.scp_pending.specs.declared.ready.Ready.{Ready}
-use Rattle.scp_ledger.specs.declared.took.Outgoing.{Outgoing}
-use Rattle.scp_ledger.specs.declared.took.Took.{Took}
-use Rattle.scp_ledger.specs.Journals.{IsToAll}
-use Rattle.scp_ledger.specs.Ledger.{IsLedger}
-use Rattle.scp_ledger.specs.Takes.{adds_entry}
+use Rattle.scp_theorem.specs.scp_driver.specs.Driver.{Says}
+use Rattle.scp_theorem.specs.scp_types.specs.declared.fault.Fault.{Fault}
+use Rattle.scp_theorem.specs.scp_types.specs.declared.fault.Fault.TheVariants.{NoMemory, JournalFull}
+use Rattle.scp_theorem.specs.scp_envelope.specs.declared.statement.Envelope.{Envelope}
+use Rattle.scp_theorem.specs.scp_outbox.specs.Outbox.{OutboxView}
+use Rattle.scp_theorem.specs.scp_pending.specs.declared.ready.Ready.{Ready}
+use Rattle.scp_theorem.specs.scp_ledger.specs.declared.took.Outgoing.{Outgoing}
+use Rattle.scp_theorem.specs.scp_ledger.specs.declared.took.Took.{Took}
+use Rattle.scp_theorem.specs.scp_ledger.specs.Journals.{IsToAll}
+use Rattle.scp_theorem.specs.scp_ledger.specs.Ledger.{IsLedger}
+use Rattle.scp_theorem.specs.scp_ledger.specs.Takes.{adds_entry}
 use Rattle.scp_core.specs.declared.stage.Given.{Given}
 use Rattle.scp_core.specs.declared.stage.Shown.{Shown}
-use Rattle.scp_ledger.specs.Seen.{LedgerView}
-use Rattle.scp_ledger.specs.By.{TakesBy, TellsBy, RunsBy}
+use Rattle.scp_theorem.specs.scp_ledger.specs.Seen.{LedgerView}
+use Rattle.scp_theorem.specs.scp_ledger.specs.By.{TakesBy, TellsBy, RunsBy}
 use Rattle.scp_core.specs.Node.{HandsOne, HandsEach, said_in}
 use Rattle.scp_core.specs.inside.Stage.{shown, Shows, TakesOut}
 use Rattle.scp_core.proofs.Deciding.{GrowBy, shown_before, runs_on}

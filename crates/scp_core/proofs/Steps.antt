@@ -2,37 +2,37 @@
 use Rattle.std.proofs.Common.{◌≡◌, ◌≢◌, ℕ, ◌+◌, Bool, true, false, cond, List, [], ◌∷◌, ◌++◌, refl, sym, ◌∙◌, ap, subst, arith, append_assoc, length, length-append, take, drop, inl, inr}
 use Rattle.std.specs.Prelude.{Option, Some, None, slice_get, slice_set, option_to_list}
 use Rattle.std.proofs.lemmas.List.{append-nil, length-set, take-append-drop}
-use Rattle.scp_pending.specs.Passes.{Passes}
+use Rattle.scp_theorem.specs.scp_pending.specs.Passes.{Passes}
 use Rattle.std.proofs.lemmas.List.Elements.{filter-append}
 use Rattle.std.proofs.lemmas.Cmp.{nat_list_eq_equiv}
-use Rattle.scp_driver.specs.Driver.{Says}
-use Rattle.scp_types.specs.declared.names.NodeId.{NodeId}
-use Rattle.scp_wire.specs.declared.link.LinkItem.{LinkItem}
-use Rattle.scp_wire.specs.declared.link.LinkItem.TheVariants as item
-use Rattle.scp_wire.specs.declared.link.Inbound.{Inbound}
-use Rattle.scp_wire.specs.declared.link.Inbound.TheVariants as inbound
-use Rattle.scp_wire.specs.LinkReading.{reading, readings, after}
-use Rattle.scp_wire.specs.Connections.{conn_at, same_node}
-use Rattle.scp_wire.specs.Shape.{Tail, goes, MayGo, Come, comes, AreInOrder, nothing_came, of_peer, is_from}
-use Rattle.scp_pending.specs.declared.ready.Ready.{Ready}
-use Rattle.scp_pending.specs.Pends.{Pends}
-use Rattle.scp_pending.specs.Rules.{PendingView, taken_in}
-use Rattle.scp_ledger.specs.declared.took.Took.{Took}
-use Rattle.scp_ledger.specs.Ledger.{IsLedger}
-use Rattle.scp_wire.specs.declared.message.Message.{Message}
-use Rattle.scp_apply.specs.Applier.{ApplierView, IsApplier, IsRunning}
-use Rattle.scp_apply.specs.Applier.{Takes as ApplierTakes}
-use Rattle.scp_ledger.specs.declared.took.Onward.{Onward}
+use Rattle.scp_theorem.specs.scp_driver.specs.Driver.{Says}
+use Rattle.scp_theorem.specs.scp_types.specs.declared.names.NodeId.{NodeId}
+use Rattle.scp_theorem.specs.scp_wire.specs.declared.link.LinkItem.{LinkItem}
+use Rattle.scp_theorem.specs.scp_wire.specs.declared.link.LinkItem.TheVariants as item
+use Rattle.scp_theorem.specs.scp_wire.specs.declared.link.Inbound.{Inbound}
+use Rattle.scp_theorem.specs.scp_wire.specs.declared.link.Inbound.TheVariants as inbound
+use Rattle.scp_theorem.specs.scp_wire.specs.LinkReading.{reading, readings, after}
+use Rattle.scp_theorem.specs.scp_wire.specs.Connections.{conn_at, same_node}
+use Rattle.scp_theorem.specs.scp_wire.specs.Shape.{Tail, goes, MayGo, Come, comes, AreInOrder, nothing_came, of_peer, is_from}
+use Rattle.scp_theorem.specs.scp_pending.specs.declared.ready.Ready.{Ready}
+use Rattle.scp_theorem.specs.scp_pending.specs.Pends.{Pends}
+use Rattle.scp_theorem.specs.scp_pending.specs.Rules.{PendingView, taken_in}
+use Rattle.scp_theorem.specs.scp_ledger.specs.declared.took.Took.{Took}
+use Rattle.scp_theorem.specs.scp_ledger.specs.Ledger.{IsLedger}
+use Rattle.scp_theorem.specs.scp_wire.specs.declared.message.Message.{Message}
+use Rattle.scp_theorem.specs.scp_apply.specs.Applier.{ApplierView, IsApplier, IsRunning}
+use Rattle.scp_theorem.specs.scp_apply.specs.Applier.{Takes as ApplierTakes}
+use Rattle.scp_theorem.specs.scp_ledger.specs.declared.took.Onward.{Onward}
 use Rattle.scp_theorem.proofs.Basics.{there_is, peer_is}
 use Rattle.scp_theorem.proofs.Places.{same_node-is}
 use Rattle.scp_core.specs.declared.event.Event.{Event}
 use Rattle.scp_core.specs.declared.event.Event.TheVariants.{Open, Send, Close, Local, ReaderTake, ReaderPut, PendTake, PendPut, SlotTake, SlotPut, ApplyTake, Drain}
 use Rattle.scp_core.proofs.Deciding.{journals_step, applies_step, first_stays}
-use Rattle.scp_core.proofs.Below.{StepLaws}
+use Rattle.scp_core.proofs.StageLaws.{StepLaws}
 use Rattle.scp_core.specs.History.{OnLink, Past, accepts, moves, tail_of, readings_of, changed, peer_at}
-use Rattle.scp_ledger.specs.Seen.{LedgerView}
-use Rattle.scp_ledger.specs.By.{TakesBy, RunsBy}
-use Rattle.scp_outbox.specs.Outbox.{OutboxView}
+use Rattle.scp_theorem.specs.scp_ledger.specs.Seen.{LedgerView}
+use Rattle.scp_theorem.specs.scp_ledger.specs.By.{TakesBy, RunsBy}
+use Rattle.scp_theorem.specs.scp_outbox.specs.Outbox.{OutboxView}
 use Rattle.scp_core.specs.Node.{SendsOut, LinkView, NodeView, with_link, said_in, Accepts, Moves}
 use Rattle.scp_core.specs.Flow.{LinkFlows, Flows}
 use Rattle.scp_core.proofs.Queues.{way-fill, way-put, way-take, get_set, at_changed, within}
@@ -398,7 +398,7 @@ module _ {D : Type 0} (says : Says D) where
       applied = f.applied;
       decided = way-fill f.onwards f.applied v.decided v.slot_hand took.onward empty f.decided;
       applier = f.applier;
-      first = ((laws.grows v.ledger x took after' takes).first ∙ f.first.0, f.first.1 ∙ sym (laws.grows v.ledger x took after' takes).first);
+      first = f.first ∙ sym (laws.grows v.ledger x took after' takes).first;
       ready_count = omega (arith, f.ready_count, ap length queue);
       decided_count = f.decided_count;
     }
@@ -450,7 +450,7 @@ module _ {D : Type 0} (says : Says D) where
       applied = f.applied ++ x ∷ [];
       decided = way-take f.onwards f.applied v.decided rest v.slot_hand x queue f.decided;
       applier = applies_step laws.applies f.applied v.applier x answer after' takes known running f.applier;
-      first = (f.first.0, first_stays v.applier x answer after' takes ∙ f.first.1);
+      first = first_stays v.applier x answer after' takes ∙ f.first;
       ready_count = f.ready_count;
       decided_count = omega (arith, f.decided_count, ap length queue);
     }

@@ -1,12 +1,12 @@
 -- Which configurations a node can have.
 use Rattle.std.specs.Prelude.{ℕ, ◌≤◌, ◌≡◌, Bool, true, false, not, ◌&&◌, List, [], ◌∷◌, length}
-use Rattle.scp_types.specs.declared.names.NodeId.{NodeId}
-use Rattle.scp_quorum.specs.Sane.{IsSane}
+use Rattle.scp_theorem.specs.scp_types.specs.declared.names.NodeId.{NodeId}
+use Rattle.scp_theorem.specs.scp_quorum.specs.Sane.{IsSane}
 use Rattle.scp_theorem.specs.Fates.{is_among}
 use Rattle.scp_core.specs.declared.config.Config.{Config}
-use Rattle.scp_types.specs.declared.limits.TheConstants.{PEER_LIMIT, LINK_LIMIT}
-use Rattle.scp_types.specs.declared.capacities.Capacities.{Capacities}
-use Rattle.scp_types.specs.Range.{AreInRange}
+use Rattle.scp_theorem.specs.scp_types.specs.declared.limits.TheConstants.{PEER_LIMIT, LINK_LIMIT}
+use Rattle.scp_theorem.specs.scp_types.specs.declared.capacities.Capacities.{Capacities}
+use Rattle.scp_theorem.specs.scp_types.specs.Range.{AreInRange}
 
 -- no peer is in the list twice
 abbrev pub are_apart : List NodeId → Bool

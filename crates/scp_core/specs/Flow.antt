@@ -1,18 +1,18 @@
 -- A running node and its past: each queue and each hand has what was put there and not taken.
 use Rattle.std.specs.Prelude.{ℕ, ◌+◌, ◌≤◌, ◌≡◌, false, List, ◌++◌, Option, Some, None, length, slice_get, option_to_list, take, drop}
-use Rattle.scp_driver.specs.Driver.{Says}
-use Rattle.scp_types.specs.declared.names.NodeId.{NodeId}
-use Rattle.scp_wire.specs.declared.link.Inbound.{Inbound}
-use Rattle.scp_wire.specs.LinkReading.{unread, after_all}
-use Rattle.scp_wire.specs.Shape.{AreOfLink, never_open, of_peer}
-use Rattle.scp_pending.specs.declared.ready.Ready.{Ready}
-use Rattle.scp_pending.specs.Pends.{Pends}
-use Rattle.scp_ledger.specs.declared.took.Onward.{Onward}
-use Rattle.scp_apply.specs.Applies.{Applies}
-use Rattle.scp_ledger.specs.By.{JournalsBy}
+use Rattle.scp_theorem.specs.scp_driver.specs.Driver.{Says}
+use Rattle.scp_theorem.specs.scp_types.specs.declared.names.NodeId.{NodeId}
+use Rattle.scp_theorem.specs.scp_wire.specs.declared.link.Inbound.{Inbound}
+use Rattle.scp_theorem.specs.scp_wire.specs.LinkReading.{unread, after_all}
+use Rattle.scp_theorem.specs.scp_wire.specs.Shape.{AreOfLink, never_open, of_peer}
+use Rattle.scp_theorem.specs.scp_pending.specs.declared.ready.Ready.{Ready}
+use Rattle.scp_theorem.specs.scp_pending.specs.Pends.{Pends}
+use Rattle.scp_theorem.specs.scp_ledger.specs.declared.took.Onward.{Onward}
+use Rattle.scp_theorem.specs.scp_apply.specs.Applies.{Applies}
+use Rattle.scp_theorem.specs.scp_ledger.specs.By.{JournalsBy}
 use Rattle.scp_core.specs.History.{OnLink, Past, tail_of, readings_of, read_so_far}
 use Rattle.scp_core.specs.Node.{LinkView, NodeView}
-use Rattle.scp_pending.specs.Peers.{AreApart}
+use Rattle.scp_theorem.specs.scp_pending.specs.Peers.{AreApart}
 
 -- one link: its tail, its queue, its reader and the reader's hand
 pub record LinkFlows (me peer : NodeId) (room : ℕ) (o : OnLink) (k : LinkView) : Type 0 where
@@ -53,8 +53,8 @@ module _ {D : Type 0} (says : Says D) where
     pub applied : List Onward
     pub decided : IsOnWay onwards applied v.decided v.slot_hand
     pub applier : Applies applied v.applier
-    -- the slot stage and the applier began with slot 1
-    pub first : (v.ledger.first ≡ 1) × (v.applier.first ≡ v.ledger.first)
+    -- the slot stage and the applier began with the same slot
+    pub first : v.applier.first ≡ v.ledger.first
     -- lengths by what was put and taken
     pub ready_count : p.ready_put ≡ p.ready_taken + length v.ready
     pub decided_count : p.decided_put ≡ p.decided_taken + length v.decided

@@ -1,18 +1,18 @@
 -- What each step hands out for the links, and what a drain gives.
 use Rattle.std.specs.Prelude.{ℕ, ◌≡◌, ◌≢◌, ◌⊎◌, false, List, [], ◌∷◌, Some, None, IfSome, length, flat_map, replicate, nat_eq, if◌then◌else◌, slice_get}
 use Rattle.std.specs.List.{AllZip}
-use Rattle.scp_driver.specs.Driver.{Says}
-use Rattle.scp_types.specs.declared.names.NodeId.{NodeId}
-use Rattle.scp_wire.specs.declared.link.Inbound.{Inbound}
-use Rattle.scp_wire.specs.declared.message.Message.{Message}
-use Rattle.scp_wire.specs.Message.{message_value, SpellsMessage}
-use Rattle.scp_wire.specs.Fitting.{IsFitting}
-use Rattle.scp_outbox.specs.Outbox.{OutboxView}
-use Rattle.scp_outbox.specs.Handing.{GivesThere, empty_outbox}
-use Rattle.scp_ledger.specs.declared.took.Outgoing.{Outgoing}
-use Rattle.scp_pending.specs.declared.ready.Ready.{Ready}
-use Rattle.scp_pending.specs.Pends.{Pends}
-use Rattle.scp_pending.specs.Rules.{PendingView, reply as reply_to}
+use Rattle.scp_theorem.specs.scp_driver.specs.Driver.{Says}
+use Rattle.scp_theorem.specs.scp_types.specs.declared.names.NodeId.{NodeId}
+use Rattle.scp_theorem.specs.scp_wire.specs.declared.link.Inbound.{Inbound}
+use Rattle.scp_theorem.specs.scp_wire.specs.declared.message.Message.{Message}
+use Rattle.scp_theorem.specs.scp_wire.specs.Message.{message_value, SpellsMessage}
+use Rattle.scp_theorem.specs.scp_wire.specs.Fitting.{IsFitting}
+use Rattle.scp_theorem.specs.scp_outbox.specs.Outbox.{OutboxView}
+use Rattle.scp_theorem.specs.scp_outbox.specs.Handing.{GivesThere, empty_outbox}
+use Rattle.scp_theorem.specs.scp_ledger.specs.declared.took.Outgoing.{Outgoing}
+use Rattle.scp_theorem.specs.scp_pending.specs.declared.ready.Ready.{Ready}
+use Rattle.scp_theorem.specs.scp_pending.specs.Pends.{Pends}
+use Rattle.scp_theorem.specs.scp_pending.specs.Rules.{PendingView, reply as reply_to}
 use Rattle.scp_theorem.specs.Account.{Account}
 use Rattle.scp_theorem.specs.Handed.{out_of}
 use Rattle.scp_theorem.specs.Laws.{AreHandedOut}

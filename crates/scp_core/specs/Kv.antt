@@ -1,10 +1,11 @@
 -- Nodes whose values are operation lists (this project's profile): the definitions of nodes, over what that application says of values.
 use Rattle.std.specs.Prelude.{List, Option}
 use Rattle.std.specs.FinMap as map
-use Rattle.scp_kv.specs.Map.{KvMap}
-use Rattle.scp_kv.specs.State.{after_value}
-use Rattle.scp_driver.specs.declared.kv_driver.KvDriver.{KvDriver}
-use Rattle.scp_driver.specs.Kv.{kv_says}
+use Rattle.scp_theorem.specs.scp_kv.specs.Map.{KvMap}
+use Rattle.scp_theorem.specs.scp_kv.specs.Saved.{state_of}
+use Rattle.scp_theorem.specs.scp_kv.specs.State.{after_value}
+use Rattle.scp_theorem.specs.scp_driver.specs.declared.kv_driver.KvDriver.{KvDriver}
+use Rattle.scp_theorem.specs.scp_driver.specs.Kv.{kv_says}
 use Rattle.scp_core.specs.declared.config.Config.{Config}
 use Rattle.scp_core.specs.declared.event.Event.{Event}
 use Rattle.scp_core.specs.declared.event.Reply.{Reply}
@@ -56,9 +57,10 @@ HoldsLedger past v = ledger.HoldsLedger kv_says past v
 abbrev pub TheoremGivesLedger : Type 0
 TheoremGivesLedger = ledger.TheoremGivesLedger kv_says
 
--- the state that such a node shows: what the applied operation lists make of the empty map; a failed node shows none
+-- the state that such a node shows: what the applied operation lists make of the one with which it began, of the empty map if it began with no
+-- bytes; a failed node shows none
 abbrev pub state_shown : NodeView → Option KvMap
-state_shown v = headline.state_shown map.empty after_value v
+state_shown v = headline.state_shown (state_of v.applier.base) after_value v
 
 -- the headline of such a node, with its state
 abbrev pub HoldsHeadline : List Exchange → NodeView → Type 0

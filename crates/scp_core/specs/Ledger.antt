@@ -1,9 +1,9 @@
 -- The ledger theorem of a node in one record: of a node that runs, and of one that failed.
 use Rattle.std.specs.Prelude.{ℕ, ◌≡◌, true, false, List, [], ◌∷◌, ◌++◌, ◌⊎◌, Option, Some, None, slice_get, option_to_list}
 use Rattle.std.specs.List.{AllByRecursion}
-use Rattle.scp_driver.specs.Driver.{Says}
-use Rattle.scp_wire.specs.declared.link.Inbound.{Inbound}
-use Rattle.scp_wire.specs.LinkReading.{readings}
+use Rattle.scp_theorem.specs.scp_driver.specs.Driver.{Says}
+use Rattle.scp_theorem.specs.scp_wire.specs.declared.link.Inbound.{Inbound}
+use Rattle.scp_theorem.specs.scp_wire.specs.LinkReading.{readings}
 use Rattle.scp_theorem.specs.Account.{Account}
 use Rattle.scp_theorem.specs.Kept.{KeepsLedger}
 use Rattle.scp_theorem.specs.Grounds.{IsSentOut}
@@ -14,7 +14,7 @@ use Rattle.scp_core.specs.Handed.{WentOut}
 use Rattle.scp_core.specs.History.{Exchange, past_of, nothing_heard}
 use Rattle.scp_core.specs.Node.{LinkView, NodeView, Step, Keeps}
 use Rattle.scp_core.specs.Sent.{grounds_of, sent_to}
-use Rattle.scp_core.specs.Theorem.{made, AreSteps, LedgerTheorem}
+use Rattle.scp_core.specs.Theorem.{begun, AreSteps, LedgerTheoremFrom}
 
 -- ---- where everything is
 
@@ -64,19 +64,21 @@ module _ {D : Type 0} (says : Says D) where
 
   -- ---- the ledger theorem
 
-  -- The ledger theorem of a node. These exchanges led to a moment, step by step from the node as it is made, and `KeepsLedger` holds of what
-  -- was sent to the node by then. That moment is the node; or, if the node failed, what it was before the step that failed it.
-  pub record HoldsLedger (past : List Exchange) (v : NodeView D) : Type 0 where
+  -- The ledger theorem of a node that began with this first slot, and with the state that these bytes say. These exchanges led to a moment, step
+  -- by step from the node as it began, and `KeepsLedger` holds of what was sent to the node by then. That moment is the node; or, if the node
+  -- failed, what it was before the step that failed it.
+  pub record HoldsLedgerFrom (slot : ℕ) (bytes : List ℕ) (past : List Exchange) (v : NodeView D) : Type 0 where
     -- the exchanges and the node, as they are; of a node that failed, as they were before the step that failed it
     pub earlier : List Exchange
     pub moment : NodeView D
     pub runs : moment.failed ≡ false
     pub is : ((v.failed ≡ false) × (earlier ≡ past) × (moment ≡ v)) ⊎ FailedAfter past earlier v moment
-    -- these exchanges led to that, step by step, from the node as it is made, with its application
+    -- these exchanges led to that, step by step, from the node as it began, with its application
     pub driver : D
-    pub steps : AreSteps says v.config nothing_heard (made driver v.config) earlier moment
-    -- it began with slot 1
-    pub first : moment.ledger.first ≡ 1
+    pub steps : AreSteps says v.config nothing_heard (begun driver v.config slot bytes) earlier moment
+    -- its slot stage and its applier began with this slot, and its applier with these bytes
+    pub first : moment.ledger.first ≡ slot
+    pub base : moment.applier.base ≡ bytes
     -- what came to the pending stage: all that was put into the inbox, except what waits there
     pub came : List Inbound
     pub came_is : (past_of v.config earlier).came ≡ came ++ moment.inbox
@@ -86,6 +88,14 @@ module _ {D : Type 0} (says : Says D) where
     pub sent : (link : ℕ) → IsSentOut (grounds_of moment came) link (sent_to link past)
     pub out : WentOut says (account_of earlier moment came) (λ link. sent_to link past) moment.outboxes
 
+  -- the same of a node that began with slot 1, and with the application's first state
+  abbrev pub HoldsLedger : List Exchange → NodeView D → Type 0
+  HoldsLedger past v = HoldsLedgerFrom 1 [] past v
+
+  -- `HoldsLedgerFrom` follows from `LedgerTheoremFrom`
+  abbrev pub TheoremGivesLedgerFrom : ℕ → List ℕ → Type 0
+  TheoremGivesLedgerFrom first base = (past : List Exchange) (v : NodeView D) → LedgerTheoremFrom says first base past v → HoldsLedgerFrom first base past v
+
   -- `HoldsLedger` follows from `LedgerTheorem`
   abbrev pub TheoremGivesLedger : Type 0
-  TheoremGivesLedger = (past : List Exchange) (v : NodeView D) → LedgerTheorem says past v → HoldsLedger past v
+  TheoremGivesLedger = TheoremGivesLedgerFrom 1 []

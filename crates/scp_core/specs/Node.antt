@@ -1,37 +1,37 @@
 -- What clients see of a node, and what one event does to it: the table of replies.
 use Rattle.std.specs.Prelude.{ℕ, ◌+◌, ◌-◌, ◌<◌, ◌≡◌, ◌≢◌, Bool, true, false, List, [], ◌∷◌, ◌++◌, ◌⊎◌, Option, Some, None, IsSome, length, map, flat_map, slice_get, slice_set, option_to_list, is_some, ◌&&◌, nat_lt, if◌then◌else◌}
-use Rattle.scp_driver.specs.Driver.{Says}
-use Rattle.scp_ledger.specs.declared.journal.TheConstants.{JOURNAL_LIMIT}
-use Rattle.scp_types.specs.declared.limits.TheConstants.{LIFE_LIMIT}
-use Rattle.scp_types.specs.declared.fault.Fault.{Fault}
-use Rattle.scp_types.specs.declared.fault.Fault.TheVariants as faults
-use Rattle.scp_types.specs.declared.names.NodeId.{NodeId}
-use Rattle.scp_envelope.specs.declared.statement.Envelope.{Envelope}
-use Rattle.scp_wire.specs.declared.message.Message.{Message}
-use Rattle.scp_wire.specs.declared.link.LinkItem.{LinkItem}
-use Rattle.scp_wire.specs.declared.link.LinkItem.TheVariants as item
-use Rattle.scp_wire.specs.declared.link.Inbound.{Inbound}
-use Rattle.scp_wire.specs.declared.link.Command.{Command}
-use Rattle.scp_wire.specs.declared.link.Command.TheVariants.{Ask}
-use Rattle.scp_wire.specs.declared.link.Inbound.TheVariants as inbound
-use Rattle.scp_wire.specs.Message.{message_value, SpellsMessage}
-use Rattle.scp_wire.specs.LinkReading.{ReaderView, unread, reading, after}
-use Rattle.scp_wire.specs.Connections.{conn_at}
-use Rattle.scp_outbox.specs.Outbox.{OutboxView}
-use Rattle.scp_outbox.specs.Handing.{HandsOut, GivesNext, GivesThere}
-use Rattle.scp_pending.specs.declared.ready.Ready.{Ready}
-use Rattle.scp_pending.specs.Passes.{Passes}
-use Rattle.scp_pending.specs.Rules.{PendingView, taken_in, reply as reply_to}
-use Rattle.scp_pending.specs.Pends.{Pends, IsIdle}
-use Rattle.scp_ledger.specs.declared.took.CommandFate.{CommandFate}
-use Rattle.scp_ledger.specs.declared.took.Onward.{Onward}
-use Rattle.scp_ledger.specs.declared.took.Outgoing.{Outgoing}
-use Rattle.scp_ledger.specs.declared.took.Outgoing.TheVariants.{To, ToAll}
-use Rattle.scp_ledger.specs.declared.took.Took.{Took}
-use Rattle.scp_ledger.specs.Ledger.{IsLedger}
-use Rattle.scp_ledger.specs.Takes.{adds_entry}
-use Rattle.scp_apply.specs.Applier.{ApplierView, IsApplier, IsRunning}
-use Rattle.scp_apply.specs.Applier.{Takes as Applies}
+use Rattle.scp_theorem.specs.scp_driver.specs.Driver.{Says}
+use Rattle.scp_theorem.specs.scp_ledger.specs.declared.journal.TheConstants.{JOURNAL_LIMIT}
+use Rattle.scp_theorem.specs.scp_types.specs.declared.limits.TheConstants.{LIFE_LIMIT}
+use Rattle.scp_theorem.specs.scp_types.specs.declared.fault.Fault.{Fault}
+use Rattle.scp_theorem.specs.scp_types.specs.declared.fault.Fault.TheVariants as faults
+use Rattle.scp_theorem.specs.scp_types.specs.declared.names.NodeId.{NodeId}
+use Rattle.scp_theorem.specs.scp_envelope.specs.declared.statement.Envelope.{Envelope}
+use Rattle.scp_theorem.specs.scp_wire.specs.declared.message.Message.{Message}
+use Rattle.scp_theorem.specs.scp_wire.specs.declared.link.LinkItem.{LinkItem}
+use Rattle.scp_theorem.specs.scp_wire.specs.declared.link.LinkItem.TheVariants as item
+use Rattle.scp_theorem.specs.scp_wire.specs.declared.link.Inbound.{Inbound}
+use Rattle.scp_theorem.specs.scp_wire.specs.declared.link.Command.{Command}
+use Rattle.scp_theorem.specs.scp_wire.specs.declared.link.Command.TheVariants.{Ask}
+use Rattle.scp_theorem.specs.scp_wire.specs.declared.link.Inbound.TheVariants as inbound
+use Rattle.scp_theorem.specs.scp_wire.specs.Message.{message_value, SpellsMessage}
+use Rattle.scp_theorem.specs.scp_wire.specs.LinkReading.{ReaderView, unread, reading, after}
+use Rattle.scp_theorem.specs.scp_wire.specs.Connections.{conn_at}
+use Rattle.scp_theorem.specs.scp_outbox.specs.Outbox.{OutboxView}
+use Rattle.scp_theorem.specs.scp_outbox.specs.Handing.{HandsOut, GivesNext, GivesThere}
+use Rattle.scp_theorem.specs.scp_pending.specs.declared.ready.Ready.{Ready}
+use Rattle.scp_theorem.specs.scp_pending.specs.Passes.{Passes}
+use Rattle.scp_theorem.specs.scp_pending.specs.Rules.{PendingView, taken_in, reply as reply_to}
+use Rattle.scp_theorem.specs.scp_pending.specs.Pends.{Pends, IsIdle}
+use Rattle.scp_theorem.specs.scp_ledger.specs.declared.took.CommandFate.{CommandFate}
+use Rattle.scp_theorem.specs.scp_ledger.specs.declared.took.Onward.{Onward}
+use Rattle.scp_theorem.specs.scp_ledger.specs.declared.took.Outgoing.{Outgoing}
+use Rattle.scp_theorem.specs.scp_ledger.specs.declared.took.Outgoing.TheVariants.{To, ToAll}
+use Rattle.scp_theorem.specs.scp_ledger.specs.declared.took.Took.{Took}
+use Rattle.scp_theorem.specs.scp_ledger.specs.Ledger.{IsLedger}
+use Rattle.scp_theorem.specs.scp_ledger.specs.Takes.{adds_entry}
+use Rattle.scp_theorem.specs.scp_apply.specs.Applier.{ApplierView, IsApplier, IsRunning}
+use Rattle.scp_theorem.specs.scp_apply.specs.Applier.{Takes as Applies}
 use Rattle.scp_theorem.specs.Handed.{handed_by}
 use Rattle.scp_core.specs.declared.config.Config.{Config}
 use Rattle.scp_core.specs.declared.event.Event.{Event}
@@ -39,8 +39,8 @@ use Rattle.scp_core.specs.declared.event.Event.TheVariants.{Open, Send, Close, L
 use Rattle.scp_core.specs.declared.event.Reply.{Reply}
 use Rattle.scp_core.specs.declared.event.Reply.TheVariants.{Failed, NoLink, AlreadyOpen, LivesSpent, NotOpen, Full, Accepted, Blocked, Idle, Moved, Sent, JournalFull, NoMemory}
 use Rattle.scp_core.specs.History.{peer_at}
-use Rattle.scp_ledger.specs.Seen.{LedgerView}
-use Rattle.scp_ledger.specs.By.{TakesBy, TellsBy, RunsBy}
+use Rattle.scp_theorem.specs.scp_ledger.specs.Seen.{LedgerView}
+use Rattle.scp_theorem.specs.scp_ledger.specs.By.{TakesBy, TellsBy, RunsBy}
 
 -- what contracts see of one link of a node: how often it was opened and whether it is open, what waits in its queue, and what its reader has
 -- read

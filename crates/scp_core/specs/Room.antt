@@ -1,14 +1,14 @@
 -- Lengths of queues, and how often links were opened, from the replies; also of a node that failed.
 use Rattle.std.specs.Prelude.{ℕ, ◌+◌, ◌-◌, ◌≤◌, ◌≡◌, true, false, List, [], ◌∷◌, ◌++◌, Some, length, slice_get}
-use Rattle.scp_driver.specs.Driver.{Says}
-use Rattle.scp_wire.specs.declared.link.LinkItem.{LinkItem}
-use Rattle.scp_wire.specs.declared.link.LinkItem.TheVariants.{Opened, Bytes, Closed}
+use Rattle.scp_theorem.specs.scp_driver.specs.Driver.{Says}
+use Rattle.scp_theorem.specs.scp_wire.specs.declared.link.LinkItem.{LinkItem}
+use Rattle.scp_theorem.specs.scp_wire.specs.declared.link.LinkItem.TheVariants.{Opened, Bytes, Closed}
 use Rattle.scp_core.specs.declared.event.Event.{Event}
 use Rattle.scp_core.specs.declared.event.Reply.{Reply}
 use Rattle.scp_core.specs.History.{Exchange, past_of, Past}
 use Rattle.scp_core.specs.Node.{NodeView, LinkView, lives_at, room_at, LeavesRoom}
 use Rattle.scp_core.specs.Ledger.{IsFailure}
-use Rattle.scp_core.specs.Theorem.{LedgerTheorem}
+use Rattle.scp_core.specs.Theorem.{LedgerTheoremFrom}
 
 -- 1 for the opening of a link, 0 for any other item
 abbrev pub opened_by : LinkItem → ℕ
@@ -55,6 +55,6 @@ module _ {D : Type 0} where
     pub failed : v.failed ≡ true → FailedHasRoom past v
 
 module _ {D : Type 0} (says : Says D) where
-  -- `HasRoom` follows from `LedgerTheorem`
+  -- `HasRoom` follows from `LedgerTheoremFrom`, of whichever beginning
   abbrev pub TheoremGivesRoom : Type 0
-  TheoremGivesRoom = (past : List Exchange) (v : NodeView D) → LedgerTheorem says past v → HasRoom past v
+  TheoremGivesRoom = (first : ℕ) (base : List ℕ) (past : List Exchange) (v : NodeView D) → LedgerTheoremFrom says first base past v → HasRoom past v

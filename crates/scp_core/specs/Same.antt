@@ -1,24 +1,24 @@
 -- What is the same if the same events came.
-use Rattle.std.specs.Prelude.{ℕ, ◌≡◌, ◌≢◌, false, List, Option, Some, None, map}
+use Rattle.std.specs.Prelude.{ℕ, ◌≡◌, ◌≢◌, false, List, [], Option, Some, None, map}
 use Rattle.std.specs.List.{AllByRecursion}
-use Rattle.scp_driver.specs.Driver.{Says}
-use Rattle.scp_types.specs.declared.names.NodeId.{NodeId}
-use Rattle.scp_vote.specs.declared.claim.StatementKind.{StatementKind}
-use Rattle.scp_slot.specs.Slot.{SlotView, slot_view, driver_of}
-use Rattle.scp_slot.specs.declared.machine.SlotMachine.{SlotMachine}
-use Rattle.scp_ledger.specs.declared.journal.Asking.{Asking}
-use Rattle.scp_ledger.specs.declared.journal.Fate.{Fate}
-use Rattle.scp_ledger.specs.declared.journal.Verdict.{Verdict}
-use Rattle.scp_ledger.specs.Journals.{Entry, entry_in}
-use Rattle.scp_ledger.specs.Ledger.{heard_at}
-use Rattle.scp_ledger.specs.Runs.{verdict_in}
-use Rattle.scp_ledger.specs.Seen.{LedgerView, machine_at, is_asked}
-use Rattle.scp_apply.specs.Laws.{ShowTheSame}
+use Rattle.scp_theorem.specs.scp_driver.specs.Driver.{Says}
+use Rattle.scp_theorem.specs.scp_types.specs.declared.names.NodeId.{NodeId}
+use Rattle.scp_theorem.specs.scp_vote.specs.declared.claim.StatementKind.{StatementKind}
+use Rattle.scp_theorem.specs.scp_slot.specs.Slot.{SlotView, slot_view, driver_of}
+use Rattle.scp_theorem.specs.scp_slot.specs.declared.machine.SlotMachine.{SlotMachine}
+use Rattle.scp_theorem.specs.scp_ledger.specs.declared.journal.Asking.{Asking}
+use Rattle.scp_theorem.specs.scp_ledger.specs.declared.journal.Fate.{Fate}
+use Rattle.scp_theorem.specs.scp_ledger.specs.declared.journal.Verdict.{Verdict}
+use Rattle.scp_theorem.specs.scp_ledger.specs.Journals.{Entry, entry_in}
+use Rattle.scp_theorem.specs.scp_ledger.specs.Ledger.{heard_at}
+use Rattle.scp_theorem.specs.scp_ledger.specs.Runs.{verdict_in}
+use Rattle.scp_theorem.specs.scp_ledger.specs.Seen.{LedgerView, machine_at, is_asked}
+use Rattle.scp_theorem.specs.scp_apply.specs.Laws.{ShowTheSame}
 use Rattle.scp_core.specs.declared.event.Event.{Event}
 use Rattle.scp_core.specs.declared.event.Reply.TheVariants.{NoMemory}
 use Rattle.scp_core.specs.History.{Exchange}
 use Rattle.scp_core.specs.Node.{NodeView, life_of, room_at}
-use Rattle.scp_core.specs.Theorem.{LedgerTheorem}
+use Rattle.scp_core.specs.Theorem.{LedgerTheoremFrom}
 
 -- Two machines of a slot show the same: nomination and ballots, the newest statements with their sets, and
 -- whether they decided. A set may be at different places in memory.
@@ -99,7 +99,12 @@ NoneLackedMemory exchanges = AllByRecursion (λ exchange. exchange.1 ≢ NoMemor
 
 module _ {D : Type 0} (says : Says D) where
   -- The same events give the same replies, journal, decisions, applied list and state. Take two lists of exchanges with one application, one
-  -- configuration and the same events, in which no step ran out of memory. They are one list, and the nodes that they left show the same.
+  -- configuration, one beginning and the same events, in which no step ran out of memory. They are one list, and the nodes that they left show
+  -- the same.
+  abbrev pub SameEventsSameRepliesFrom : ℕ → List ℕ → Type 0
+  SameEventsSameRepliesFrom first base =
+      (one other : List Exchange) (v w : NodeView D) → (h : LedgerTheoremFrom says first base one v) → (k : LedgerTheoremFrom says first base other w) → h.driver ≡ k.driver → v.config ≡ w.config → map event_of one ≡ map event_of other → NoneLackedMemory one → NoneLackedMemory other → (one ≡ other) × ShowSameNode v w
+
+  -- the same from slot 1, and from the application's first state
   abbrev pub SameEventsSameReplies : Type 0
-  SameEventsSameReplies =
-      (one other : List Exchange) (v w : NodeView D) → (h : LedgerTheorem says one v) → (k : LedgerTheorem says other w) → h.driver ≡ k.driver → v.config ≡ w.config → map event_of one ≡ map event_of other → NoneLackedMemory one → NoneLackedMemory other → (one ≡ other) × ShowSameNode v w
+  SameEventsSameReplies = SameEventsSameRepliesFrom 1 []

@@ -1,6 +1,6 @@
 -- What was sent to the peer of each link, and what it rests on (this project's profile).
 use Rattle.std.specs.Prelude.{ℕ, List, [], ◌∷◌, flat_map, nat_eq, if◌then◌else◌}
-use Rattle.scp_wire.specs.declared.link.Inbound.{Inbound}
+use Rattle.scp_theorem.specs.scp_wire.specs.declared.link.Inbound.{Inbound}
 use Rattle.scp_theorem.specs.Grounds.{Who, Grounds}
 use Rattle.scp_core.specs.declared.config.Config.{Config}
 use Rattle.scp_core.specs.declared.event.Event.{Event}

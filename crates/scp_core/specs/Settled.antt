@@ -1,8 +1,8 @@
 -- When the pending stage answers Idle, all that it holds waits rightly.
 use Rattle.std.specs.Prelude.{◌≡◌}
-use Rattle.scp_driver.specs.Driver.{Says}
-use Rattle.scp_pending.specs.Rules.{PendingView, settled_by}
-use Rattle.scp_pending.specs.Causes.{IsSettledBy}
+use Rattle.scp_theorem.specs.scp_driver.specs.Driver.{Says}
+use Rattle.scp_theorem.specs.scp_pending.specs.Rules.{PendingView, settled_by}
+use Rattle.scp_theorem.specs.scp_pending.specs.Causes.{IsSettledBy}
 use Rattle.scp_theorem.specs.Grounds.{start_of}
 use Rattle.scp_core.specs.declared.config.Config.{Config}
 use Rattle.scp_core.specs.declared.event.Event.TheVariants.{PendTake}

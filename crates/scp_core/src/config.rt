@@ -3,8 +3,8 @@ ghost use Rattle.std.specs.Prelude.{◌≡◌};
 ghost use Rattle.scp_theorem.specs.Fates.{is_among};
 ghost use Rattle.scp_core.specs.Config.{are_apart};
 
-use scp_quorum::QuorumSet;
-use scp_types::{Capacities, NodeId};
+use scp_theorem::below::quorum::QuorumSet;
+use scp_theorem::below::types::{Capacities, NodeId};
 use std::marker::Model;
 
 /// The nodes at the other ends of a node's links, in the order of the links.
@@ -13,7 +13,7 @@ pub struct Peers(Vec<NodeId>);
 
 impl Model for Peers {
     ghost use Rattle.std.specs.Prelude.{List};
-    ghost use Rattle.scp_types.specs.declared.names.NodeId.{NodeId};
+    ghost use Rattle.scp_theorem.specs.scp_types.specs.declared.names.NodeId.{NodeId};
 
     ghost Value = { List NodeId };
 

@@ -1,7 +1,9 @@
 //! The slot stage, the queue after it, and the applier.
-ghost use Rattle.std.specs.Prelude.{◌≡◌, ◌≢◌, ◌≤◌, ◌∷◌, [], ◌<◌, false, true, length, None, Some, is_some, IfOk, IfSome, IsOkUnless, option_copied, slice_get, if◌then◌else◌};
-ghost use Rattle.scp_wire.specs.Fitting.{IsFitting};
-ghost use Rattle.scp_apply.specs.Applied.{made_of, value_of};
+ghost use Rattle.std.specs.Prelude.{◌≡◌, ◌≢◌, ◌+◌, ◌≤◌, ◌∷◌, [], ◌<◌, false, true, length, None, Some, is_some, IfOk, IfErr, IfSome, IsOkUnless, option_copied, slice_get, if◌then◌else◌};
+ghost use Rattle.scp_theorem.specs.scp_xdr.specs.Words.{IsReadingFault};
+ghost use Rattle.scp_theorem.specs.scp_driver.specs.Driver.{IsBase};
+ghost use Rattle.scp_theorem.specs.scp_wire.specs.Fitting.{IsFitting};
+ghost use Rattle.scp_theorem.specs.scp_apply.specs.Applied.{made_of, value_of};
 ghost use Rattle.scp_core.specs.inside.Decider.{new_decider, Decides, Applies, PutsOn, fail as failed_now};
 ghost use Rattle.scp_core.specs.inside.Stops.{told};
 
@@ -9,20 +11,21 @@ use crate::event::Reply;
 use crate::queue;
 use crate::said::SaidList;
 use crate::stage::SlotStage;
+use crate::start::Start;
 use crate::stop::Stop;
 use circular_buffer::HeapCircularBuffer;
-use scp_apply::{Applier, the_next_decision_can_be_taken};
-use scp_driver::Application;
-use scp_envelope::SharedEnvelope;
-use scp_ledger::{
+use scp_theorem::below::apply::{Applier, the_next_decision_can_be_taken};
+use scp_theorem::below::driver::Application;
+use scp_theorem::below::envelope::SharedEnvelope;
+use scp_theorem::below::ledger::{
     CommandFate, Fate, Ledger, Onward, SharedDecision,
     what_holds_of_a_ledger_holds_with_one_thing_more,
 };
-use scp_outbox::Outboxes;
-use scp_pending::Ready;
-use scp_quorum::SaneSet;
-use scp_types::{Fault, NodeId, Slot, Value};
-use scp_wire::Message;
+use scp_theorem::below::outbox::Outboxes;
+use scp_theorem::below::pending::Ready;
+use scp_theorem::below::quorum::SaneSet;
+use scp_theorem::below::types::{Fault, NodeId, Slot, Value};
+use scp_theorem::below::wire::Message;
 use std::alloc::Global;
 use std::marker::Model;
 use std::sync::Arc;
@@ -44,9 +47,9 @@ pub struct Decider<A: Application + Drop + Copy> {
 impl<A: Application + Drop + Copy> Model for Decider<A> {
     ghost use Rattle.std.specs.Prelude.{is_some};
     ghost use Rattle.std.specs.Coded.{codes};
-    ghost use Rattle.scp_xdr.specs.inside.TreeModel.{coded_row};
-    ghost use Rattle.scp_quorum.specs.inside.QuorumTree.{coded_level};
-    ghost use Rattle.scp_ledger.specs.inside.Coding.{machine_code};
+    ghost use Rattle.scp_theorem.specs.scp_xdr.specs.inside.TreeModel.{coded_row};
+    ghost use Rattle.scp_theorem.specs.scp_quorum.specs.inside.QuorumTree.{coded_level};
+    ghost use Rattle.scp_theorem.specs.scp_ledger.specs.inside.Coding.{machine_code};
     ghost use Rattle.scp_core.specs.inside.Decider.{DeciderView, IsWell};
 
     ghost Value = { DeciderView A };
@@ -59,7 +62,7 @@ impl<A: Application + Drop + Copy> Model for Decider<A> {
 }
 
 impl<A: Application + Drop + Copy> Decider<A> {
-    /// A decider that took nothing.
+    /// A decider that took nothing. Refused as `Application::begin` is, else by `NoMemory`.
     pub fn new(
         alloc: Global,
         me: NodeId,
@@ -67,19 +70,25 @@ impl<A: Application + Drop + Copy> Decider<A> {
         application: A,
         peers: Vec<NodeId>,
         room: usize,
+        start: Start,
     ) -> Result<Decider<A>, Fault>
         requires few { length peers.items ≤ 255 }
-        ensures new { IfOk result (λ d. d ≡ new_decider me set.value application peers.items room) }
-        ensures only_memory { IsOkUnless result Fault.NoMemory }
+        ensures new { IfOk result (λ d. d ≡ new_decider me set.value application peers.items room (start.before + 1) start.base.items) }
+        ensures base { IfOk result (λ _. IsBase A.begins A.written start.base.items) }
+        ensures refused { IfErr result (λ f. f ≢ Fault.NoMemory → ¬ (IsBase A.begins A.written start.base.items)) }
+        ensures faults { IfErr result (λ f. f ≢ Fault.NoMemory → IsReadingFault f) }
     {
+        let Start { before, base } = start;
+        let applier = Applier::begin(alloc, before, base)?;
+        let queue = HeapCircularBuffer::with_capacity(alloc, room)?;
         Ok(Decider {
             failed: None,
-            stage: SlotStage::new(alloc, me, set, application, peers),
+            stage: SlotStage::new(alloc, me, set, application, peers, before),
             hand: None,
             last_command: None,
             last_said: SaidList::new(Vec::new(alloc)),
-            queue: HeapCircularBuffer::with_capacity(alloc, room)?,
-            applier: Applier::new(alloc, 0),
+            queue,
+            applier,
         })
     }
 
@@ -145,6 +154,20 @@ impl<A: Application + Drop + Copy> Decider<A> {
         self.queue.len()
     }
 
+    /// The last slot before the applier's first one.
+    pub fn before(&self) -> u32
+        ensures { self.now.applier.first ≡ result + 1 }
+    {
+        self.applier.before()
+    }
+
+    /// The bytes of the state with which the applier began.
+    pub fn base(&self) -> &[u8]
+        ensures { result.now ≡ self.now.applier.base }
+    {
+        self.applier.base()
+    }
+
     pub fn journal(&self) -> &[Fate]
         ensures { result.now ≡ self.now.ledger.journal }
     {
@@ -165,7 +188,7 @@ impl<A: Application + Drop + Copy> Decider<A> {
 
     /// The state; `None` once it has failed.
     pub fn state(&self) -> Option<&A::State>
-        ensures { option_copied result ≡ (if self.now.failed then None else Some (made_of A.first A.after self.now.applier.applied)) }
+        ensures { option_copied result ≡ (if self.now.failed then None else Some (made_of (A.begins self.now.applier.base) A.after self.now.applier.applied)) }
     {
         if self.failed.is_some() {
             return None;

@@ -1,8 +1,8 @@
 //! What happens at a node, and what it answers.
 ghost use Rattle.std.specs.Prelude.{◌≡◌, IfOk, IsOkUnless};
 
-use scp_types::Fault;
-use scp_wire::{Bytes, Command};
+use scp_theorem::below::types::Fault;
+use scp_theorem::below::wire::{Bytes, Command};
 
 /// What happens at a node: one step of one link's tail, or of one stage. Links are numbered in the order of the peers they come from.
 #[derive(Drop)]

@@ -1,18 +1,18 @@
 //! What stages hand out for links, put into the outboxes, and what is sent out of them.
 ghost use Rattle.std.specs.Prelude.{◌≡◌, ◌∷◌, [], ◌++◌, IfOk, OnOk, OnErr, All, Any, IfSome};
-ghost use Rattle.scp_wire.specs.Fitting.{IsFitting};
-ghost use Rattle.scp_ledger.specs.Fitting.{FitsOut};
-ghost use Rattle.scp_ledger.specs.Journals.{IsToAll};
+ghost use Rattle.scp_theorem.specs.scp_wire.specs.Fitting.{IsFitting};
+ghost use Rattle.scp_theorem.specs.scp_ledger.specs.Fitting.{FitsOut};
+ghost use Rattle.scp_theorem.specs.scp_ledger.specs.Journals.{IsToAll};
 ghost use Rattle.scp_core.specs.Node.{Hands, HandsOne, HandsEach, said_by, said_in as said_among};
 ghost use Rattle.scp_core.specs.inside.Draining.{Draws, IsSpelt, empty_reply};
 
 use crate::event::Reply;
 use crate::said::SaidList;
-use scp_envelope::SharedEnvelope;
-use scp_ledger::{Outgoing, OutgoingList};
-use scp_outbox::Outboxes;
-use scp_types::Fault;
-use scp_wire::{BoxedEnvelope, Bytes, FittingMessage, Message, encode};
+use scp_theorem::below::envelope::SharedEnvelope;
+use scp_theorem::below::ledger::{Outgoing, OutgoingList};
+use scp_theorem::below::outbox::Outboxes;
+use scp_theorem::below::types::Fault;
+use scp_theorem::below::wire::{BoxedEnvelope, Bytes, FittingMessage, Message, encode};
 use std::alloc::Global;
 
 /// Puts a stage's answer for a link into that link's outbox.

@@ -14,6 +14,7 @@
 //! For two runs: the same events give the same replies, if no step runs out of memory (`what_two_runs_reply_is_the_same`).
 #![tactic(auto)]
 
+pub mod below;
 mod config;
 mod decider;
 mod event;
@@ -26,6 +27,7 @@ mod queue;
 mod running;
 mod said;
 mod stage;
+mod start;
 mod stop;
 
 pub use config::{Config, Peers};
@@ -39,9 +41,11 @@ pub use laws::{
 pub use node::Node;
 pub use outcome::Run;
 pub use running::run;
-pub use scp_driver::{Application, Driver, KvDriver, Level};
-pub use scp_ledger::{CommandFate, Decision, Fate, Origin, SharedDecision, Verdict, timers};
-pub use scp_pending::DropCause;
-pub use scp_slot::Timer;
-pub use scp_types::{CAPACITY_LIMIT, Capacities, LIFE_LIMIT};
-pub use scp_wire::{Bytes, Cause, Command};
+pub use scp_theorem::below::driver::{Application, Driver, KvDriver, Level};
+pub use scp_theorem::below::ledger::{
+    CommandFate, Decision, Fate, Origin, SharedDecision, Verdict, timers,
+};
+pub use scp_theorem::below::pending::DropCause;
+pub use scp_theorem::below::slot::Timer;
+pub use scp_theorem::below::types::{CAPACITY_LIMIT, Capacities, LIFE_LIMIT};
+pub use scp_theorem::below::wire::{Bytes, Cause, Command};

@@ -8,8 +8,8 @@ use crate::event::Reply;
 use crate::queue;
 use crate::stop::Stop;
 use circular_buffer::HeapCircularBuffer;
-use scp_types::{Fault, NodeId};
-use scp_wire::{Bytes, Inbound, LinkItem, LinkReader, Tail};
+use scp_theorem::below::types::{Fault, NodeId};
+use scp_theorem::below::wire::{Bytes, Inbound, LinkItem, LinkReader, Tail};
 use std::alloc::Global;
 use std::marker::Model;
 
@@ -26,8 +26,8 @@ pub struct Link {
 impl Model for Link {
     ghost use Rattle.std.specs.Prelude.{◌≡◌, [], ◌++◌, None, option_to_list};
     ghost use Rattle.std.specs.Coded.{codes};
-    ghost use Rattle.scp_xdr.specs.inside.TreeModel.{coded_row};
-    ghost use Rattle.scp_quorum.specs.inside.QuorumTree.{coded_level};
+    ghost use Rattle.scp_theorem.specs.scp_xdr.specs.inside.TreeModel.{coded_row};
+    ghost use Rattle.scp_theorem.specs.scp_quorum.specs.inside.QuorumTree.{coded_level};
     ghost use Rattle.scp_core.specs.Node.{LinkView};
 
     ghost Value = { LinkView };

@@ -1,16 +1,18 @@
 //! A node: one event is one step of one stage.
-ghost use Rattle.std.specs.Prelude.{◌≡◌, ◌≢◌, ◌∷◌, [], ◌++◌, ◌-◌, ◌<◌, ◌≤◌, ◌⊎◌, ◌↔◌, ℕ, List, length, drop, is_some, IsSome, false, true, IfOk, OnOk, OnErr, IfErr, IsOkUnless, Ok, Err, IsTrue, slice_get, option_copied, MatchOption};
-ghost use Rattle.scp_types.specs.declared.limits.TheConstants.{WINDOW};
-ghost use Rattle.scp_ledger.specs.declared.journal.Fate.{Fate};
-ghost use Rattle.scp_pending.specs.Line.{count_held};
-ghost use Rattle.scp_ledger.specs.Timers.{AreTimers};
-ghost use Rattle.scp_apply.specs.Applied.{value_of};
+ghost use Rattle.std.specs.Prelude.{◌≡◌, ◌≢◌, ◌∷◌, [], ◌++◌, ◌+◌, ◌-◌, ◌<◌, ◌≤◌, ◌⊎◌, ◌↔◌, ℕ, List, length, drop, is_some, IsSome, false, true, IfOk, OnOk, OnErr, IfErr, IsOkUnless, Ok, Err, IsTrue, slice_get, option_copied, MatchOption};
+ghost use Rattle.scp_theorem.specs.scp_types.specs.declared.limits.TheConstants.{WINDOW};
+ghost use Rattle.scp_theorem.specs.scp_xdr.specs.Words.{IsReadingFault};
+ghost use Rattle.scp_theorem.specs.scp_driver.specs.Driver.{IsBase};
+ghost use Rattle.scp_theorem.specs.scp_ledger.specs.declared.journal.Fate.{Fate};
+ghost use Rattle.scp_theorem.specs.scp_pending.specs.Line.{count_held};
+ghost use Rattle.scp_theorem.specs.scp_ledger.specs.Timers.{AreTimers};
+ghost use Rattle.scp_theorem.specs.scp_apply.specs.Applied.{value_of};
 ghost use Rattle.scp_core.specs.Config.{IsConfig, IsConfigOfMany, IsConfigWithin, IsFitWithin, are_apart};
 ghost use Rattle.scp_core.specs.History.{peer_at, Exchange};
 ghost use Rattle.scp_core.specs.Node.{Step, Keeps, LeavesRoom, fault_after, HasLink, lives_at, room_at, queued_at, accepts_at, item_at, has_read_at};
-ghost use Rattle.scp_outbox.specs.Handing.{waiting_at, overwritten_at};
-ghost use Rattle.scp_core.specs.Theorem.{LedgerTheorem};
-ghost use Rattle.scp_core.specs.Headline.{HoldsHeadline, state_shown};
+ghost use Rattle.scp_theorem.specs.scp_outbox.specs.Handing.{waiting_at, overwritten_at};
+ghost use Rattle.scp_core.specs.Theorem.{LedgerTheorem, LedgerTheoremFrom};
+ghost use Rattle.scp_core.specs.Headline.{HoldsHeadline, HoldsHeadlineFrom, state_shown};
 ghost use Rattle.scp_core.specs.inside.Starting.{IsNew};
 
 use crate::config::{Config, Peers, are_peers_apart, has_peer};
@@ -23,19 +25,22 @@ use crate::laws::{
 };
 use crate::link::{self, Link};
 use crate::queue;
+use crate::start::{Start, at_slot_1};
 use circular_buffer::HeapCircularBuffer;
-use scp_driver::{Application, KvDriver};
-use scp_envelope::SharedEnvelope;
-use scp_ledger::{
+use scp_theorem::below::driver::{Application, KvDriver};
+use scp_theorem::below::envelope::SharedEnvelope;
+use scp_theorem::below::ledger::{
     CommandFate, Fate, Ledger, Onward, SharedDecision, timers,
     what_holds_of_a_ledger_holds_with_one_thing_more,
 };
-use scp_outbox::Outboxes;
-use scp_pending::{Pending, Ready};
-use scp_quorum::{QuorumSet, SaneSet};
-use scp_slot::Timer;
-use scp_types::{Capacities, ConnId, Fault, LINK_LIMIT, NodeId, PEER_LIMIT, Slot, Value};
-use scp_wire::{Bytes, Command, Inbound, LinkItem};
+use scp_theorem::below::outbox::Outboxes;
+use scp_theorem::below::pending::{Pending, Ready};
+use scp_theorem::below::quorum::{QuorumSet, SaneSet};
+use scp_theorem::below::slot::Timer;
+use scp_theorem::below::types::{
+    Capacities, ConnId, Fault, LINK_LIMIT, NodeId, PEER_LIMIT, Slot, Value,
+};
+use scp_theorem::below::wire::{Bytes, Command, Inbound, LinkItem};
 use std::alloc::Global;
 use std::marker::Model;
 use std::sync::Arc;
@@ -59,9 +64,9 @@ pub struct Node<A: Application + Drop + Copy = KvDriver> {
 
 impl<A: Application + Drop + Copy> Model for Node<A> {
     ghost use Rattle.std.specs.Coded.{codes};
-    ghost use Rattle.scp_xdr.specs.inside.TreeModel.{coded_row};
-    ghost use Rattle.scp_quorum.specs.inside.QuorumTree.{coded_level};
-    ghost use Rattle.scp_ledger.specs.inside.Coding.{machine_code};
+    ghost use Rattle.scp_theorem.specs.scp_xdr.specs.inside.TreeModel.{coded_row};
+    ghost use Rattle.scp_theorem.specs.scp_quorum.specs.inside.QuorumTree.{coded_level};
+    ghost use Rattle.scp_theorem.specs.scp_ledger.specs.inside.Coding.{machine_code};
     ghost use Rattle.scp_core.specs.Node.{NodeView};
 
     ghost Value = { NodeView A };
@@ -104,7 +109,9 @@ impl<A: Application + Drop + Copy> Node<A> {
         ensures refused { result ≡ Err Fault.BadConfig ↔ ¬ (IsConfig config) }
         ensures only { IfErr result (λ f. (f ≡ Fault.BadConfig) ⊎ (f ≡ Fault.NoMemory)) }
     {
-        Node::made(alloc, config, application, PEER_LIMIT)
+        each_node_holds_its_ledger::<A>();
+        each_node_holds_its_headline::<A>();
+        Node::made(alloc, config, application, PEER_LIMIT, at_slot_1(alloc))
     }
 
     /// A node as `new` makes it, but of up to a hundred peers instead of seven.
@@ -116,22 +123,55 @@ impl<A: Application + Drop + Copy> Node<A> {
         ensures refused { result ≡ Err Fault.BadConfig ↔ ¬ (IsConfigOfMany config) }
         ensures only { IfErr result (λ f. (f ≡ Fault.BadConfig) ⊎ (f ≡ Fault.NoMemory)) }
     {
-        Node::made(alloc, config, application, LINK_LIMIT as usize)
-    }
-
-    /// A node of at most this many peers.
-    fn made(alloc: Global, config: Config, application: A, most: usize) -> Result<Node<A>, Fault>
-        requires { most ≤ LINK_LIMIT }
-        ensures theorem { IfOk result (λ node. LedgerTheorem A.says [] node) }
-        ensures headline { IfOk result (λ node. HoldsHeadline (Step A.says) A.first A.after [] node) }
-        ensures config { IfOk result (λ node. node.config ≡ config) }
-        ensures application { IfOk result (λ node. node.ledger.driver ≡ application) }
-        ensures refused { result ≡ Err Fault.BadConfig ↔ ¬ (IsConfigWithin most config) }
-        ensures only { IfErr result (λ f. (f ≡ Fault.BadConfig) ⊎ (f ≡ Fault.NoMemory)) }
-    {
-        what_holds_of_a_ledger_holds_with_one_thing_more::<A>();
         each_node_holds_its_ledger::<A>();
         each_node_holds_its_headline::<A>();
+        let most = LINK_LIMIT as usize;
+        Node::made(alloc, config, application, most, at_slot_1(alloc))
+    }
+
+    /// A node as `of_many` makes it, which begins with the slot after `before`, and with the state that these bytes say
+    /// (`Application::write`). It keeps the bytes. With 0 and no bytes it is the one that `of_many` makes. Refused by `BadConfig` as there,
+    /// then by `Malformed` or `TooLong` if the bytes say no state, else by `NoMemory`.
+    pub fn begin(
+        alloc: Global,
+        config: Config,
+        application: A,
+        before: u32,
+        base: Vec<u8>,
+    ) -> Result<Node<A>, Fault>
+        ensures theorem { IfOk result (λ node. LedgerTheoremFrom A.says (before + 1) base.items [] node) }
+        ensures headline { IfOk result (λ node. HoldsHeadlineFrom (Step A.says) A.begins A.after (before + 1) base.items [] node) }
+        ensures config { IfOk result (λ node. node.config ≡ config) }
+        ensures application { IfOk result (λ node. node.ledger.driver ≡ application) }
+        ensures base { IfOk result (λ _. IsBase A.begins A.written base.items) }
+        ensures refused { result ≡ Err Fault.BadConfig ↔ ¬ (IsConfigOfMany config) }
+        ensures no_state { IfErr result (λ f. IsReadingFault f → ¬ (IsBase A.begins A.written base.items)) }
+        ensures only { IfErr result (λ f. (f ≡ Fault.BadConfig) ⊎ ((f ≡ Fault.NoMemory) ⊎ IsReadingFault f)) }
+    {
+        each_node_holds_its_ledger::<A>();
+        each_node_holds_its_headline::<A>();
+        let start = Start { before, base };
+        Node::made(alloc, config, application, LINK_LIMIT as usize, start)
+    }
+
+    /// A node of at most this many peers, which begins so.
+    fn made(
+        alloc: Global,
+        config: Config,
+        application: A,
+        most: usize,
+        start: Start,
+    ) -> Result<Node<A>, Fault>
+        requires { most ≤ LINK_LIMIT }
+        ensures theorem { IfOk result (λ node. LedgerTheoremFrom A.says (start.before + 1) start.base.items [] node) }
+        ensures config { IfOk result (λ node. node.config ≡ config) }
+        ensures application { IfOk result (λ node. node.ledger.driver ≡ application) }
+        ensures base { IfOk result (λ _. IsBase A.begins A.written start.base.items) }
+        ensures refused { result ≡ Err Fault.BadConfig ↔ ¬ (IsConfigWithin most config) }
+        ensures no_state { IfErr result (λ f. IsReadingFault f → ¬ (IsBase A.begins A.written start.base.items)) }
+        ensures only { IfErr result (λ f. (f ≡ Fault.BadConfig) ⊎ ((f ≡ Fault.NoMemory) ⊎ IsReadingFault f)) }
+    {
+        what_holds_of_a_ledger_holds_with_one_thing_more::<A>();
         let Config {
             me,
             set,
@@ -146,7 +186,7 @@ impl<A: Application + Drop + Copy> Node<A> {
             Err((Fault::Insane, _)) => return Err(Fault::BadConfig),
             Err(_) => return Err(Fault::NoMemory),
         };
-        Node::with_set(alloc, me, set, application, peers, capacities)
+        Node::with_set(alloc, me, set, application, peers, capacities, start)
     }
 
     /// A node with a configuration that is fit.
@@ -157,13 +197,17 @@ impl<A: Application + Drop + Copy> Node<A> {
         application: A,
         peers: Peers,
         capacities: Capacities,
+        start: Start,
     ) -> Result<Node<A>, Fault>
         requires few { length peers ≤ LINK_LIMIT }
         requires apart { are_apart peers ≡ true }
-        ensures new { IfOk result (λ node. IsNew A.says node) }
+        ensures new { IfOk result (λ node. IsNew A.says (start.before + 1) start.base.items node) }
         ensures application { IfOk result (λ node. node.ledger.driver ≡ application) }
         ensures config { IfOk result (λ node. node.config ≡ record { me = me; set = set; peers = peers; capacities = capacities }) }
-        ensures only_memory { IsOkUnless result Fault.NoMemory }
+        ensures base { IfOk result (λ _. IsBase A.begins A.written start.base.items) }
+        ensures refused { IfErr result (λ f. f ≢ Fault.NoMemory → ¬ (IsBase A.begins A.written start.base.items)) }
+        ensures faults { IfErr result (λ f. f ≢ Fault.NoMemory → IsReadingFault f) }
+        ensures not_bad { result ≢ Err Fault.BadConfig }
     {
         let count = peers.as_slice().len();
         let links = link::new_links(alloc, count, capacities.link as usize)?;
@@ -178,6 +222,7 @@ impl<A: Application + Drop + Copy> Node<A> {
             application,
             ledger_peers,
             capacities.decided as usize,
+            start,
         )?;
         let pending_peers = Vec::from_slice(alloc, peers.as_slice())?;
         let outboxes = Outboxes::new(alloc, count)?;
@@ -212,6 +257,20 @@ impl<A: Application + Drop + Copy> Node<A> {
         self.peers.as_slice()
     }
 
+    /// The slot with which the node began.
+    pub fn first(&self) -> Slot
+        ensures { result.0 ≡ self.now.applier.first }
+    {
+        Slot(u64::from(self.decider.before()) + 1)
+    }
+
+    /// The bytes of the state with which the node began; none for the application's first state.
+    pub fn base(&self) -> &[u8]
+        ensures { result.now ≡ self.now.applier.base }
+    {
+        self.decider.base()
+    }
+
     /// Every fate so far, in the order in which they were entered; of a failed node, those from before the step that failed it.
     pub fn journal(&self) -> &[Fate]
         ensures { result.now ≡ self.now.ledger.journal }
@@ -226,7 +285,7 @@ impl<A: Application + Drop + Copy> Node<A> {
         self.decider.decisions()
     }
 
-    /// The decisions of slots 1 to n, which were applied; of a failed node as for `journal`.
+    /// The decisions that were applied, those of the first slot and of the slots after it, in order; of a failed node as for `journal`.
     pub fn applied(&self) -> &[SharedDecision]
         ensures { result.now ≡ self.now.applier.applied }
     {
@@ -235,19 +294,15 @@ impl<A: Application + Drop + Copy> Node<A> {
 
     /// The applied decisions of the slots after this one, in order: those that a host which knows the slots up to this one hasn't seen.
     pub fn applied_since(&self, slot: Slot) -> &[SharedDecision]
-        ensures { result.now ≡ drop slot.0 self.now.applier.applied }
+        ensures { result.now ≡ drop (slot.0 + 1 - self.now.applier.first) self.now.applier.applied }
     {
-        let applied = self.applied();
-        let known = usize::try_from(slot.0).unwrap_or(usize::MAX);
-        match applied.get(known..) {
-            Some(more) => more,
-            None => &[],
-        }
+        let known = slot.0.saturating_sub(u64::from(self.decider.before()));
+        behind(self.applied(), known)
     }
 
-    /// The state that the applied values make, one after another, from the application's first state; `None` once the node has failed.
+    /// The state that the applied values make, one after another, from the state on with which the node began; `None` once it has failed.
     pub fn state(&self) -> Option<&A::State>
-        ensures { option_copied result ≡ state_shown A.first A.after self.now }
+        ensures { option_copied result ≡ state_shown (A.begins self.now.applier.base) A.after self.now }
     {
         self.decider.state()
     }
@@ -445,8 +500,11 @@ impl<A: Application + Drop + Copy> Node<A> {
         ensures step { Step A.says self.old event result self.new }
         // What holds of every list of events, of their replies and of the node.
         ensures theorem { (past : List Exchange) → LedgerTheorem A.says past self.old → LedgerTheorem A.says (past ++ (event, result) ∷ []) self.new }
+        // Whatever the node began with.
+        ensures theorem_from { (first : ℕ) (base : List ℕ) (past : List Exchange) → LedgerTheoremFrom A.says first base past self.old → LedgerTheoremFrom A.says first base (past ++ (event, result) ∷ []) self.new }
         // So does the headline, with the state.
         ensures headline { (past : List Exchange) → LedgerTheorem A.says past self.old → HoldsHeadline (Step A.says) A.first A.after (past ++ (event, result) ∷ []) self.new }
+        ensures headline_from { (first : ℕ) (base : List ℕ) (past : List Exchange) → LedgerTheoremFrom A.says first base past self.old → HoldsHeadlineFrom (Step A.says) A.begins A.after first base (past ++ (event, result) ∷ []) self.new }
         // A refusal leaves the node as it was.
         ensures same { result ≢ Reply.Accepted → result ≢ Reply.Moved → result ≢ Reply.JournalFull → result ≢ Reply.NoMemory → ((bytes : List ℕ) → result ≢ Reply.Sent bytes) → self.new ≡ self.old }
         // A node that fails keeps its journal, its decisions, the links it asked, what is applied, and how often each link was opened.
@@ -678,4 +736,15 @@ fn is_no_memory(reply: &Reply) -> bool
     ensures { IsTrue result ↔ (reply.now ≡ Reply.NoMemory) }
 {
     matches!(reply, Reply::NoMemory)
+}
+
+/// The decisions after this many.
+fn behind(decisions: &[SharedDecision], known: u64) -> &[SharedDecision]
+    ensures { result.now ≡ drop known decisions.now }
+{
+    let known = usize::try_from(known).unwrap_or(usize::MAX);
+    match decisions.get(known..) {
+        Some(more) => more,
+        None => &[],
+    }
 }

@@ -2,7 +2,7 @@
 
 use crate::event::Reply;
 use crate::node::Node;
-use scp_driver::{Application, KvDriver};
+use scp_theorem::below::driver::{Application, KvDriver};
 
 /// The replies to a list of events, in order, and the node that the events left.
 #[derive(Drop)]

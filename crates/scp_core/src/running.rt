@@ -12,8 +12,8 @@ use crate::event::{Event, Reply};
 use crate::laws::{each_node_holds_its_headline, each_node_holds_its_ledger};
 use crate::node::Node;
 use crate::outcome::Run;
-use scp_driver::Application;
-use scp_types::Fault;
+use scp_theorem::below::driver::Application;
+use scp_theorem::below::types::Fault;
 use std::alloc::Global;
 
 /// Runs the events in order on a new node of the application; each event is copied. Refused by `BadConfig` as `Node::new` is, else by

@@ -1,6 +1,6 @@
 //! The own statements that a slot stage says.
 
-use scp_envelope::SharedEnvelope;
+use scp_theorem::below::envelope::SharedEnvelope;
 use std::marker::Model;
 
 /// Own statements for all peers, in order. Contracts see the list.
@@ -9,7 +9,7 @@ pub struct SaidList(Vec<SharedEnvelope>);
 
 impl Model for SaidList {
     ghost use Rattle.std.specs.Prelude.{List};
-    ghost use Rattle.scp_envelope.specs.declared.statement.Envelope.{Envelope};
+    ghost use Rattle.scp_theorem.specs.scp_envelope.specs.declared.statement.Envelope.{Envelope};
 
     ghost Value = { List Envelope };
 

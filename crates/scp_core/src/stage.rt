@@ -1,22 +1,22 @@
 //! The slot stage of a node: what its ledger hands out is put into the outboxes.
-ghost use Rattle.std.specs.Prelude.{◌≡◌, ◌↔◌, ◌≤◌, [], true, false, length, take, IfOk, OnErr, IsErrOf};
-ghost use Rattle.scp_ledger.specs.Ledger.{IsLedger};
-ghost use Rattle.scp_ledger.specs.Takes.{adds_entry};
-ghost use Rattle.scp_ledger.specs.By.{RunsBy};
-ghost use Rattle.scp_ledger.specs.Runs.{nothing_taken};
+ghost use Rattle.std.specs.Prelude.{◌≡◌, ◌+◌, ◌↔◌, ◌≤◌, [], true, false, length, take, IfOk, OnErr, IsErrOf};
+ghost use Rattle.scp_theorem.specs.scp_ledger.specs.Ledger.{IsLedger};
+ghost use Rattle.scp_theorem.specs.scp_ledger.specs.Takes.{adds_entry};
+ghost use Rattle.scp_theorem.specs.scp_ledger.specs.By.{RunsBy};
+ghost use Rattle.scp_theorem.specs.scp_ledger.specs.Runs.{nothing_taken};
 ghost use Rattle.scp_core.specs.inside.Stage.{TakesOut};
 
 use crate::handing::hand_out_all;
 use crate::said::SaidList;
-use scp_driver::Application;
-use scp_ledger::{
+use scp_theorem::below::driver::Application;
+use scp_theorem::below::ledger::{
     CommandFate, Fate, JOURNAL_LIMIT, Ledger, Onward, SharedDecision,
     what_holds_of_a_ledger_holds_with_one_thing_more,
 };
-use scp_outbox::Outboxes;
-use scp_pending::Ready;
-use scp_quorum::SaneSet;
-use scp_types::{Fault, NodeId};
+use scp_theorem::below::outbox::Outboxes;
+use scp_theorem::below::pending::Ready;
+use scp_theorem::below::quorum::SaneSet;
+use scp_theorem::below::types::{Fault, NodeId};
 use std::alloc::Global;
 use std::marker::Model;
 use std::sync::Arc;
@@ -46,10 +46,10 @@ pub struct SlotStage<A: Application + Drop + Copy> {
 
 impl<A: Application + Drop + Copy> Model for SlotStage<A> {
     ghost use Rattle.std.specs.Coded.{codes};
-    ghost use Rattle.scp_xdr.specs.inside.TreeModel.{coded_row};
-    ghost use Rattle.scp_quorum.specs.inside.QuorumTree.{coded_level};
-    ghost use Rattle.scp_ledger.specs.inside.Coding.{machine_code};
-    ghost use Rattle.scp_ledger.specs.Seen.{LedgerView};
+    ghost use Rattle.scp_theorem.specs.scp_xdr.specs.inside.TreeModel.{coded_row};
+    ghost use Rattle.scp_theorem.specs.scp_quorum.specs.inside.QuorumTree.{coded_level};
+    ghost use Rattle.scp_theorem.specs.scp_ledger.specs.inside.Coding.{machine_code};
+    ghost use Rattle.scp_theorem.specs.scp_ledger.specs.Seen.{LedgerView};
     ghost use Rattle.scp_core.specs.inside.Stage.{shown};
 
     ghost Value = { LedgerView A };
@@ -60,21 +60,22 @@ impl<A: Application + Drop + Copy> Model for SlotStage<A> {
 }
 
 impl<A: Application + Drop + Copy> SlotStage<A> {
-    /// A slot stage that took nothing.
+    /// A slot stage that took nothing. Its first slot is the one after `before`.
     pub fn new(
         alloc: Global,
         me: NodeId,
         set: Arc<SaneSet>,
         application: A,
         peers: Vec<NodeId>,
+        before: u32,
     ) -> SlotStage<A>
         requires few { length peers.items ≤ 255 }
-        ensures new { result ≡ nothing_taken me set.value application peers.items 1 }
+        ensures new { result ≡ nothing_taken me set.value application peers.items (before + 1) }
         ensures known { IsLedger result }
         ensures running { RunsBy A.says result }
     {
         SlotStage {
-            ledger: Ledger::new(alloc, me, set, application, peers, 0),
+            ledger: Ledger::new(alloc, me, set, application, peers, before),
             cut: None,
         }
     }

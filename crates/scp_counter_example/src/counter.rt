@@ -1,11 +1,11 @@
 //! A counter that only grows: an application whose values are numbers.
 ghost use Rattle.std.specs.Prelude.{◌≡◌, ◌≢◌, ℕ, List, [], OnOk, IfOk, IsOkUnless};
-ghost use Rattle.scp_counter_example.specs.inside.Counter.{counter_says, number_in, level_of, least, least_from, raised, after_number, is_below};
-ghost use Rattle.scp_counter_example.specs.inside.CounterLaws.{least_full, number_is_short, below_stays};
+ghost use Rattle.scp_counter_example.specs.inside.Counter.{counter_says, number_in, level_of, least, least_from, raised, after_number, is_below, bytes_of, count_in};
+ghost use Rattle.scp_counter_example.specs.inside.CounterLaws.{least_full, number_is_short, below_stays, none_say_zero};
 
-use scp_core::{Application, Driver, Level};
-use scp_driver::place_of;
-use scp_types::{Fault, Slot, Value};
+use scp_turn::below::driver::place_of;
+use scp_turn::below::node::{Application, Driver, Level};
+use scp_turn::below::types::{Fault, Slot, Value};
 use std::alloc::Global;
 
 /// The counter. A value is a number of eight bytes, the highest first; the least candidate is the composite, so that the counter
@@ -14,11 +14,17 @@ use std::alloc::Global;
 pub struct Counter;
 
 /// The number that a value spells, if it has eight bytes.
-#[tactic(auto, unfolding(crate::specs::inside::Counter::number_in))]
 pub fn number_of(value: &Value) -> Option<u64>
     ensures { result ≡ number_in value.now }
 {
-    let bytes = value.as_slice();
+    number_of_bytes(value.as_slice())
+}
+
+/// The number that eight bytes spell.
+#[tactic(auto, unfolding(crate::specs::inside::Counter::number_in))]
+fn number_of_bytes(bytes: &[u8]) -> Option<u64>
+    ensures { result ≡ number_in bytes.now }
+{
     if bytes.len() != 8 {
         return None;
     }
@@ -85,8 +91,26 @@ impl Application for Counter {
 
     ghost is_refused = { λ count value. is_below count (number_in value) };
 
+    ghost begins = { count_in };
+
+    ghost written = { bytes_of };
+
     fn new_state(_alloc: Global) -> u64 {
         0
+    }
+
+    fn begin(_alloc: Global, bytes: &[u8]) -> Result<u64, Fault> {
+        if bytes.is_empty() {
+            return Ok(0);
+        }
+        match number_of_bytes(bytes) {
+            Some(count) => Ok(count),
+            None => Err(Fault::Malformed(0)),
+        }
+    }
+
+    fn write(alloc: Global, count: &u64) -> Result<Vec<u8>, Fault> {
+        Ok(Vec::from_slice(alloc, &count.to_be_bytes())?)
     }
 
     fn refuses(count: &u64, value: &Value) -> bool {
@@ -104,6 +128,8 @@ impl Application for Counter {
         }
         Ok(())
     }
+
+    ghost begins_first = { none_say_zero };
 
     ghost refused_stays = { λ count value refused. below_stays count (number_in value) refused };
 }

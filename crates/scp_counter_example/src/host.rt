@@ -1,14 +1,16 @@
 //! The host of a node: it tells the node what comes, and carries what goes out.
 ghost use Rattle.std.specs.Prelude.{◌≡◌, true};
-ghost use Rattle.scp_core.specs.Headline.{state_shown};
+ghost use Rattle.scp_turn.specs.scp_core.specs.Headline.{state_shown};
 ghost use Rattle.scp_turn.specs.Episode.{IsOfHost};
-ghost use Rattle.scp_counter_example.specs.inside.Counter.{after_number};
+ghost use Rattle.scp_counter_example.specs.inside.Counter.{after_number, count_in};
 
 use crate::counter::Counter;
-use scp_core::{Bytes, Capacities, Command, Config, Event, Node, Peers, SharedDecision, Timer};
-use scp_quorum::QuorumSet;
+use scp_turn::below::node::{
+    Bytes, Capacities, Command, Config, Event, Node, Peers, SharedDecision, Timer,
+};
+use scp_turn::below::quorum::QuorumSet;
+use scp_turn::below::types::{Fault, NodeId, Slot};
 use scp_turn::{Sending, play};
-use scp_types::{Fault, NodeId, Slot};
 use std::alloc::Global;
 
 /// Room in each queue.
@@ -125,9 +127,9 @@ impl Host {
         self.node.applied_since(slot)
     }
 
-    /// The count: what the applied numbers make of 0, one after another. None of a node that failed.
+    /// The count: what the applied numbers make, one after another, of the count with which the node began, 0 where it began with none. None of a node that failed.
     pub fn count(&self) -> Option<u64>
-        ensures { result ≡ state_shown 0 after_number self.now.node }
+        ensures { result ≡ state_shown (count_in self.now.node.applier.base) after_number self.now.node }
     {
         self.node.state().copied()
     }

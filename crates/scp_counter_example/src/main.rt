@@ -11,9 +11,9 @@ mod host;
 
 use counter::{Counter, number_of, value_of};
 use host::Host;
-use scp_core::{Application, Bytes, Command, Event};
 use scp_turn::Sending;
-use scp_types::{Fault, Slot};
+use scp_turn::below::node::{Application, Bytes, Command, Event};
+use scp_turn::below::types::{Fault, Slot};
 use std::alloc::Global;
 use std::collections::VecDeque;
 

@@ -1,2 +1,3 @@
+pub use Rattle.scp_types
 pub mod Device
 pub mod Expected

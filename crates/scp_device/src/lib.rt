@@ -12,6 +12,7 @@
 #![tactic(auto)]
 
 mod bad;
+pub mod below;
 mod device;
 mod parts;
 

@@ -1,12 +1,12 @@
 -- What is left is what was told.
 use Rattle.std.proofs.Common.{◌≡◌, ◌≢◌, sym, subst}
 use Rattle.std.specs.Prelude.{ℕ, [], Option, Some, None, List}
-use Rattle.scp_types.specs.declared.fault.Fault.TheVariants.{NoMemory}
-use Rattle.scp_turn.specs.Network.{NetworkView}
-use Rattle.scp_script.specs.declared.command.Command.{Command}
+use Rattle.scp_trace.specs.scp_types.specs.declared.fault.Fault.TheVariants.{NoMemory}
+use Rattle.scp_trace.specs.scp_turn.specs.Network.{NetworkView}
+use Rattle.scp_trace.specs.scp_script.specs.declared.command.Command.{Command}
 use Rattle.scp_trace.specs.scp_line.specs.declared.player.Stopped.{Stopped}
 use Rattle.scp_trace.specs.scp_line.specs.Player.{IsRun, IsCutOff, IsStoppedBy}
-use Rattle.scp_facts.specs.Watching.{StepIsTold}
+use Rattle.scp_trace.specs.scp_facts.specs.Watching.{StepIsTold}
 use Rattle.scp_draw.specs.Lines.{telling, IsTelling, IsToldTo}
 use Rattle.scp_draw.specs.inside.Playing.{begun}
 use Rattle.scp_draw.specs.inside.Leaving.{IsLeft}

@@ -1,25 +1,25 @@
 -- A page is made of what is told.
-use Rattle.std.proofs.Common.{◌≡◌, ◌+◌, ◌++◌, ◌∷◌, ◌∙◌, [], ℕ, suc, List, None, inl, length, map, sym, ap, refl, subst}
+use Rattle.std.proofs.Common.{true, ◌≡◌, ◌+◌, ◌++◌, ◌∷◌, ◌∙◌, [], ℕ, suc, List, None, inl, length, map, sym, ap, refl, subst}
 use Rattle.std.specs.Prelude.{Option, Some, option_to_list}
-use Rattle.scp_core.specs.Kv.{NodeView}
-use Rattle.scp_turn.specs.Network.{NetworkView}
-use Rattle.scp_script.specs.declared.command.Command.{Command}
-use Rattle.scp_script.specs.Words.{words_of}
-use Rattle.scp_script.specs.Script.{command_in, commands_of, node_count}
+use Rattle.scp_trace.specs.scp_core.specs.Kv.{NodeView}
+use Rattle.scp_trace.specs.scp_turn.specs.Network.{NetworkView}
+use Rattle.scp_trace.specs.scp_script.specs.declared.command.Command.{Command}
+use Rattle.scp_trace.specs.scp_script.specs.Words.{words_of}
+use Rattle.scp_trace.specs.scp_script.specs.Script.{command_in, commands_of, node_count}
 use Rattle.scp_trace.specs.scp_line.specs.declared.player.Stopped.{Stopped as StoppedAt}
 use Rattle.scp_trace.specs.scp_line.specs.Player.{IsCutOff}
 use Rattle.scp_trace.specs.scp_line.specs.Nodes.{HasPlayed}
-use Rattle.scp_script_check.specs.scp_device.specs.declared.bad.ReadFault.TheVariants as reads
-use Rattle.scp_script_check.specs.declared.warning.Warning.{Warning}
-use Rattle.scp_script_check.specs.Lines.{IsSaid, MayWant, numbers_of}
-use Rattle.scp_script_check.specs.Texts.{warnings_text}
-use Rattle.scp_script_check.specs.Warnings.{AreWarnings}
-use Rattle.scp_stand_slot.specs.declared.names.Names.{Names}
-use Rattle.scp_stand_slot.specs.Adding.{Adds}
-use Rattle.scp_stand_slot.specs.Names.{AreNames}
+use Rattle.scp_trace.specs.scp_device.specs.declared.bad.ReadFault.TheVariants as reads
+use Rattle.scp_trace.specs.scp_script_check.specs.declared.warning.Warning.{Warning}
+use Rattle.scp_trace.specs.scp_script_check.specs.Lines.{IsSaid, MayWant, numbers_of}
+use Rattle.scp_trace.specs.scp_script_check.specs.Texts.{warnings_text}
+use Rattle.scp_trace.specs.scp_script_check.specs.Warnings.{AreWarnings}
+use Rattle.scp_trace.specs.scp_stand_slot.specs.declared.names.Names.{Names}
+use Rattle.scp_trace.specs.scp_stand_slot.specs.Adding.{Adds}
+use Rattle.scp_trace.specs.scp_stand_slot.specs.Names.{AreNames}
 use Rattle.scp_trace.specs.Playing.{moment_at}
 use Rattle.scp_trace.specs.Standing.{IsEnd}
-use Rattle.scp_facts.specs.declared.fact.Telling.{Telling}
+use Rattle.scp_trace.specs.scp_facts.specs.declared.fact.Telling.{Telling}
 use Rattle.scp_draw.specs.Page.{page_text}
 use Rattle.scp_draw.specs.Lines.{telling, IsTelling, IsToldTo}
 use Rattle.scp_draw.specs.Drawn.{IsPageOf, IsDrawn, IsStopped, IsDrawFault}
@@ -46,10 +46,10 @@ lines_fit text commands lines said =
 
 -- the text is of where the nodes of commands stand at the end, and of a script's warnings
 abbrev pub IsEnding : Names → (all commands : List Command) → List ℕ → (network : NetworkView) → HasPlayed all all network → List ℕ → Type 0
-IsEnding names all commands lines network far text = (ending : List ℕ) × (found : List Warning) × IsEnd names all (moment_at far.heard network) ending × AreWarnings commands lines found × (text ≡ ending ++ warnings_text found)
+IsEnding names all commands lines network far text = (ending : List ℕ) × (found : List Warning) × IsEnd true names all (moment_at far.heard network) ending × AreWarnings commands lines found × (text ≡ ending ++ warnings_text found)
 
 -- of an empty text where the nodes stand, and then the warnings
-pub end_and_warnings : (names : Names) (all commands : List Command) (lines : List ℕ) (network : NetworkView) (far : HasPlayed all all network) (start mid text : List ℕ) (warnings : List Warning) → start ≡ [] → Adds start mid (IsEnd names all (moment_at far.heard network)) → AreWarnings commands lines warnings → text ≡ mid ++ warnings_text warnings
+pub end_and_warnings : (names : Names) (all commands : List Command) (lines : List ℕ) (network : NetworkView) (far : HasPlayed all all network) (start mid text : List ℕ) (warnings : List Warning) → start ≡ [] → Adds start mid (IsEnd true names all (moment_at far.heard network)) → AreWarnings commands lines warnings → text ≡ mid ++ warnings_text warnings
     → IsEnding names all commands lines network far text
 end_and_warnings names all commands lines network far start mid text warnings none ended warned is =
     let from : mid ≡ ended.0 = ended.1 ∙ ap (λ (l : List ℕ). l ++ ended.0) none in

@@ -1,15 +1,15 @@
 -- A script is played line by line, and told.
 use Rattle.std.proofs.Common.{◌≡◌, ◌≢◌, ◌∙◌, ℕ, Bool, true, false, List, [], ◌∷◌, ◌++◌, sym, ap, subst, inl, inr}
-use Rattle.scp_types.specs.declared.fault.Fault.TheVariants.{NoMemory}
-use Rattle.scp_turn.specs.Network.{NetworkView}
-use Rattle.scp_script.specs.declared.command.Command.{Command}
+use Rattle.scp_trace.specs.scp_types.specs.declared.fault.Fault.TheVariants.{NoMemory}
+use Rattle.scp_trace.specs.scp_turn.specs.Network.{NetworkView}
+use Rattle.scp_trace.specs.scp_script.specs.declared.command.Command.{Command}
 use Rattle.scp_trace.specs.scp_line.specs.declared.player.Stopped.{Stopped}
 use Rattle.scp_trace.specs.scp_line.specs.Player.{Lining, lining, IsRun, IsCutOff, IsStoppedBy}
 use Rattle.scp_trace.specs.scp_line.specs.inside.Player.{NotesAs}
 use Rattle.scp_trace.proofs.Player.{run_as, run_from, cut_as}
-use Rattle.scp_facts.specs.declared.fact.Telling.{Telling}
-use Rattle.scp_facts.specs.declared.fact.Telling.TheVariants.{Line}
-use Rattle.scp_facts.specs.Watching.{WatchView, Awaits, TellsStep, BeginsLine, StepIsTold}
+use Rattle.scp_trace.specs.scp_facts.specs.declared.fact.Telling.{Telling}
+use Rattle.scp_trace.specs.scp_facts.specs.declared.fact.Telling.TheVariants.{Line}
+use Rattle.scp_trace.specs.scp_facts.specs.Watching.{WatchView, Awaits, TellsStep, BeginsLine, StepIsTold}
 use Rattle.scp_draw.specs.declared.playing.LineFacts.{LineFacts}
 use Rattle.scp_draw.specs.Lines.{telling, IsTelling}
 use Rattle.scp_draw.specs.inside.Playing.{begun}

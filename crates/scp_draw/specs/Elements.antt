@@ -1,38 +1,43 @@
 -- The elements of facts in the picture of a run (this project's profile). Each fact that a trace shows has one, in the column of its node.
-use Rattle.std.specs.Prelude.{ℕ, ◌+◌, ◌-◌, ◌*◌, Bool, List, [], ◌∷◌, ◌++◌, Option, Some, None, codes, flat_map, get_or, nat_lt, slice_get, if◌then◌else◌}
+use Rattle.std.specs.Prelude.{ℕ, ◌+◌, ◌-◌, ◌*◌, ◌||◌, Bool, List, [], ◌∷◌, ◌++◌, Option, Some, None, codes, flat_map, get_or, nat_lt, slice_get, if◌then◌else◌}
 use Rattle.std.specs.Fmt.{decimal}
-use Rattle.scp_types.specs.declared.names.ConnId.{ConnId}
-use Rattle.scp_types.specs.declared.names.NodeId.{NodeId}
-use Rattle.scp_ledger.specs.declared.journal.Decision.{Decision}
-use Rattle.scp_ledger.specs.declared.journal.Origin.{Origin}
-use Rattle.scp_ledger.specs.declared.journal.Origin.TheVariants.{Machine, Named}
-use Rattle.scp_core.specs.History.{peer_at}
-use Rattle.scp_core.specs.Kv.{NodeView}
-use Rattle.scp_stand_slot.specs.declared.names.Names.{Names}
-use Rattle.scp_facts.specs.declared.fact.Fact.{Fact}
-use Rattle.scp_facts.specs.declared.fact.Fact.TheVariants.{Says, Decided, Sent}
-use Rattle.scp_facts.specs.declared.fact.Told.{Told}
-use Rattle.scp_facts.specs.declared.fact.Telling.{Telling}
-use Rattle.scp_facts.specs.declared.fact.Telling.TheVariants.{Line, Of}
+use Rattle.scp_trace.specs.scp_types.specs.declared.names.ConnId.{ConnId}
+use Rattle.scp_trace.specs.scp_types.specs.declared.names.NodeId.{NodeId}
+use Rattle.scp_trace.specs.scp_ledger.specs.declared.journal.Decision.{Decision}
+use Rattle.scp_trace.specs.scp_ledger.specs.declared.journal.Origin.{Origin}
+use Rattle.scp_trace.specs.scp_ledger.specs.declared.journal.Origin.TheVariants.{Machine, Named}
+use Rattle.scp_trace.specs.scp_core.specs.History.{peer_at}
+use Rattle.scp_trace.specs.scp_core.specs.Kv.{NodeView}
+use Rattle.scp_trace.specs.scp_stand_slot.specs.declared.names.Names.{Names}
+use Rattle.scp_trace.specs.scp_facts.specs.declared.fact.Fact.{Fact}
+use Rattle.scp_trace.specs.scp_facts.specs.declared.fact.Fact.TheVariants.{Says, Decided, Sent}
+use Rattle.scp_trace.specs.scp_facts.specs.declared.fact.Told.{Told}
+use Rattle.scp_trace.specs.scp_facts.specs.declared.fact.Telling.{Telling}
+use Rattle.scp_trace.specs.scp_facts.specs.declared.fact.Telling.TheVariants.{Line, Of}
 use Rattle.scp_trace.specs.scp_trace_text.specs.Facts.{told_line}
 use Rattle.scp_draw_marks.specs.Pieces.{escaped, line_text, across_text, bar_text, ring_text, letters_text}
 use Rattle.scp_draw_marks.specs.declared.marks.Mark.{Mark}
 use Rattle.scp_draw_marks.specs.Topics.{came_by}
 use Rattle.scp_draw_marks.specs.Looks.{kind_word, sign_of, is_sent, is_against, fact_class}
+use Rattle.scp_draw_marks.specs.Lines.{is_taken, start_of}
 
 -- ---- columns
 
 -- the place of the column of the node of this number
 abbrev pub column : ℕ → ℕ
-column number = 5 * number
+column number = 20 * number
 
 -- The number of a node of a script, from its id, each of whose bytes is that number.
 abbrev pub number_of : NodeId → ℕ
 number_of id = get_or id.0 0 0
 
--- the place next to the column of a node, on the side of another node
+-- the place next to the sign in the column of a node, on the side of another node
+abbrev pub beside : ℕ → ℕ → ℕ
+beside number other = if nat_lt number other then column number + 1 else column number - 1
+
+-- the place further toward the column of another node
 abbrev pub toward : ℕ → ℕ → ℕ
-toward number other = if nat_lt number other then column number + 1 else column number - 1
+toward number other = if nat_lt number other then column number + 4 else column number - 4
 
 -- ---- shapes
 
@@ -45,15 +50,19 @@ abbrev pub bar_of : Mark → Fact → List ℕ
 bar_of mark (Says e) = bar_text (codes "b") (column mark.node) mark.row
 bar_of mark fact = []
 
--- an arrow from the node that sent the message, in the row in which it came, to this node
+-- an arrow from the node that sent the message, in the row in which it begins, to this node
 abbrev pub arrow_from : Mark → Option ℕ → Option (ConnId × ℕ) → List ℕ
 arrow_from mark None place = []
 arrow_from mark (Some row) None = []
 arrow_from mark (Some row) (Some place) = line_text (codes "a") (column (number_of place.0.from)) row (column mark.node) mark.row
 
+-- a stroke at this row from the sign of a node toward another one
+abbrev pub stroke_to : Mark → ℕ → List ℕ
+stroke_to mark other = line_text (codes "o") (beside mark.node other) mark.row (toward mark.node other) mark.row
+
 -- a stroke for what is sent, toward the column of the receiver
 abbrev pub stroke_of : NodeView → Mark → Fact → List ℕ
-stroke_of v mark (Sent link bytes) = line_text (codes "o") (column mark.node) mark.row (toward mark.node (number_of (peer_at v.config link))) mark.row
+stroke_of v mark (Sent link bytes) = stroke_to mark (number_of (peer_at v.config link))
 stroke_of v mark fact = []
 
 -- a ring around the column of a node
@@ -97,28 +106,32 @@ abbrev pub title_text : Names → NodeView → Mark → Told → List ℕ
 title_text names v mark told = codes "line " ++ decimal mark.line ++ codes "\n" ++ told_line names mark.line (Some v) [] told
 
 -- the shapes of an element
-abbrev pub shapes_text : NodeView → Mark → Fact → List ℕ
-shapes_text v mark fact = rule_text mark ++ bar_of mark fact ++ arrow_from mark mark.from (came_by v fact) ++ stroke_of v mark fact ++ rings_of v mark fact ++ sign_text mark (sign_of v mark.topic.kind fact)
+abbrev pub shapes_text : NodeView → Mark → Option ℕ → Fact → List ℕ
+shapes_text v mark start fact = rule_text mark ++ bar_of mark fact ++ arrow_from mark start (came_by v fact) ++ stroke_of v mark fact ++ rings_of v mark fact ++ sign_text mark (sign_of v mark.topic.kind fact)
 
 -- the end of an element
-abbrev pub back_text : NodeView → Mark → Fact → List ℕ
-back_text v mark fact = codes "</title>" ++ shapes_text v mark fact ++ codes "</g>\n"
+abbrev pub back_text : NodeView → Mark → Option ℕ → Fact → List ℕ
+back_text v mark start fact = codes "</title>" ++ shapes_text v mark start fact ++ codes "</g>\n"
 
 -- the element of a fact of this node
-abbrev pub fact_element : Names → NodeView → Mark → Bool → Bool → Told → List ℕ
-fact_element names v mark sent against told = front_text v mark sent against told.fact ++ (escaped (title_text names v mark told) ++ back_text v mark told.fact)
+abbrev pub fact_element : Names → NodeView → Mark → Bool → Bool → Option ℕ → Told → List ℕ
+fact_element names v mark sent against start told = front_text v mark sent against told.fact ++ (escaped (title_text names v mark told) ++ back_text v mark start told.fact)
 
 -- the same, if its node exists
-abbrev pub told_element : Names → Option NodeView → Mark → Bool → Bool → Told → List ℕ
-told_element names None mark sent against told = []
-told_element names (Some v) mark sent against told = fact_element names v mark sent against told
+abbrev pub told_element : Names → Option NodeView → Mark → Bool → Bool → Option ℕ → Told → List ℕ
+told_element names None mark sent against start told = []
+told_element names (Some v) mark sent against start told = fact_element names v mark sent against start told
 
 -- the element of what is shown at this place, if it is a fact
-abbrev pub telling_element : Names → List NodeView → Option Telling → Mark → Bool → Bool → List ℕ
-telling_element names nodes None mark sent against = []
-telling_element names nodes (Some (Line line)) mark sent against = []
-telling_element names nodes (Some (Of told)) mark sent against = told_element names (slice_get nodes (told.node - 1)) mark sent against told
+abbrev pub telling_element : Names → List NodeView → Option Telling → Mark → Bool → Bool → Option ℕ → List ℕ
+telling_element names nodes None mark sent against start = []
+telling_element names nodes (Some (Line line)) mark sent against start = []
+telling_element names nodes (Some (Of told)) mark sent against start = told_element names (slice_get nodes (told.node - 1)) mark sent against start told
+
+-- What the mark says is sent before the node says something newer, or the script sends it and a node takes it.
+abbrev pub reaches : List NodeView → List Telling → Mark → List Mark → Bool
+reaches nodes tellings mark later = is_sent mark later || is_taken nodes tellings mark later
 
 -- the element of a mark, among all marks and before these later ones, from the nodes and from all that is shown
 abbrev pub element : Names → List NodeView → List Telling → List Mark → List Mark → Mark → List ℕ
-element names nodes tellings marks later mark = telling_element names nodes (slice_get tellings mark.at) mark (is_sent mark later) (is_against nodes tellings marks mark)
+element names nodes tellings marks later mark = telling_element names nodes (slice_get tellings mark.at) mark (reaches nodes tellings mark later) (is_against nodes tellings marks mark) (start_of nodes tellings marks mark)

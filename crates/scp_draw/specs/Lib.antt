@@ -1,3 +1,4 @@
+pub use Rattle.scp_trace.specs.scp_facts
 pub use Rattle.scp_trace
 pub mod Elements
 pub mod Frame

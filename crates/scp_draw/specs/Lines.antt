@@ -1,12 +1,12 @@
 -- What is drawn of the lines of a script (this project's profile).
 use Rattle.std.specs.Prelude.{ℕ, ◌≡◌, List, [], ◌∷◌, ◌++◌, Option, Some, None}
-use Rattle.scp_turn.specs.Network.{NetworkView}
-use Rattle.scp_script.specs.declared.command.Command.{Command}
+use Rattle.scp_trace.specs.scp_turn.specs.Network.{NetworkView}
+use Rattle.scp_trace.specs.scp_script.specs.declared.command.Command.{Command}
 use Rattle.scp_trace.specs.scp_line.specs.declared.player.Stopped.{Stopped}
 use Rattle.scp_trace.specs.scp_line.specs.Player.{Lining, IsRun, IsCutOff}
-use Rattle.scp_facts.specs.declared.fact.Telling.{Telling}
-use Rattle.scp_facts.specs.declared.fact.Telling.TheVariants.{Line}
-use Rattle.scp_facts.specs.Telling.{Tells}
+use Rattle.scp_trace.specs.scp_facts.specs.declared.fact.Telling.{Telling}
+use Rattle.scp_trace.specs.scp_facts.specs.declared.fact.Telling.TheVariants.{Line}
+use Rattle.scp_trace.specs.scp_facts.specs.Telling.{Tells}
 
 -- what is noted of a line: its number before it, and then exactly the facts of each of its steps
 abbrev pub telling : Lining (List Telling)

@@ -1,11 +1,11 @@
 //! The page of a script's run.
-ghost use Rattle.std.specs.Prelude.{◌≡◌, ◌++◌, [], ℕ, List, All, IfOk, IfErr, IsOkUnless, length, string_bytes};
-ghost use Rattle.scp_script.specs.Script.{AreAdmitted};
-ghost use Rattle.scp_script.specs.Nodes.{NamesNodes};
+ghost use Rattle.std.specs.Prelude.{◌≡◌, ◌++◌, [], ℕ, List, All, IfOk, IfErr, IsOkUnless, length, string_bytes, true};
+ghost use Rattle.scp_trace.specs.scp_script.specs.Script.{AreAdmitted};
+ghost use Rattle.scp_trace.specs.scp_script.specs.Nodes.{NamesNodes};
 ghost use Rattle.scp_trace.specs.scp_line.specs.Nodes.{HaveRoom, HasPlayed};
-ghost use Rattle.scp_script_check.specs.declared.warning.Warning.{Warning};
-ghost use Rattle.scp_script_check.specs.Texts.{warnings_text};
-ghost use Rattle.scp_script_check.specs.Warnings.{AreWarnings};
+ghost use Rattle.scp_trace.specs.scp_script_check.specs.declared.warning.Warning.{Warning};
+ghost use Rattle.scp_trace.specs.scp_script_check.specs.Texts.{warnings_text};
+ghost use Rattle.scp_trace.specs.scp_script_check.specs.Warnings.{AreWarnings};
 ghost use Rattle.scp_trace.specs.Playing.{IsPlaying, moment_at};
 ghost use Rattle.scp_trace.specs.Standing.{IsEnd};
 ghost use Rattle.scp_draw.specs.Lines.{IsTelling};
@@ -14,13 +14,13 @@ ghost use Rattle.scp_draw.specs.inside.Refusing.{IsCauseOf};
 
 use crate::page::{Run, write_page};
 use crate::playing::play_told;
-use scp_facts::Telling;
-use scp_script::count_of_nodes;
-use scp_script_check::{ReadFault, Script, read};
-use scp_stand_slot::Names;
+use scp_trace::below::facts::Telling;
+use scp_trace::below::script::count_of_nodes;
+use scp_trace::below::script_check::{ReadFault, Script, read};
+use scp_trace::below::stand_slot::Names;
+use scp_trace::below::turn::Network;
+use scp_trace::below::types::Fault;
 use scp_trace::{PlayFault, Playing, a_script_has_room, write_end, write_warnings};
-use scp_turn::Network;
-use scp_types::Fault;
 use std::alloc::Global;
 
 /// Why nothing is drawn.
@@ -32,18 +32,18 @@ pub enum DrawFault {
     Stopped(PlayFault),
 }
 
-/// Where the nodes of a script stand after it was played, and its warnings.
+/// Where the nodes of a script stand after it was played, each of them, and its warnings.
 fn ending_of(playing: Playing<'_>, network: &Network, script: &Script) -> Result<String, Fault>
     requires playing { IsPlaying playing.count playing.commands.now playing.played.now network.now }
     requires whole { playing.played.now ≡ playing.commands.now }
     requires same { playing.commands.now ≡ script.now.commands.items }
     requires names { All NamesNodes script.now.commands.items }
     requires admitted { AreAdmitted [] script.now.commands.items }
-    ensures told { (so_far : HasPlayed playing.entry.commands.now playing.entry.commands.now network.now) → IfOk result (λ text. (ending : List ℕ) × (found : List Warning) × IsEnd playing.entry.names.now playing.entry.commands.now (moment_at so_far.heard network.now) ending × AreWarnings script.now.commands.items script.now.lines.items found × (string_bytes text ≡ ending ++ warnings_text found)) }
+    ensures told { (so_far : HasPlayed playing.entry.commands.now playing.entry.commands.now network.now) → IfOk result (λ text. (ending : List ℕ) × (found : List Warning) × IsEnd true playing.entry.names.now playing.entry.commands.now (moment_at so_far.heard network.now) ending × AreWarnings script.now.commands.items script.now.lines.items found × (string_bytes text ≡ ending ++ warnings_text found)) }
     ensures only_memory { IsOkUnless result Fault.NoMemory }
 {
     let mut text = String::new(playing.alloc);
-    write_end(&mut text, playing, network)?;
+    write_end(&mut text, playing, network, true)?;
     write_warnings(playing.alloc, &mut text, script)?;
     Ok(text)
 }

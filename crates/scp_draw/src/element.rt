@@ -1,20 +1,21 @@
 //! The elements of facts.
 ghost use Rattle.std.specs.Prelude.{◌≡◌, ◌++◌, ◌-◌, IfOk, OnOk, IsOkUnless, Some, flat_map, slice_get, string_bytes};
 ghost use Rattle.scp_draw_marks.specs.Pieces.{escaped};
-ghost use Rattle.scp_core.specs.History.{peer_at};
-ghost use Rattle.scp_core.specs.Kv.{NodeView};
-ghost use Rattle.scp_draw_marks.specs.Looks.{is_sent as is_sent_so, is_against as is_against_so};
-ghost use Rattle.scp_draw.specs.Elements.{column as column_of, number_of as number_by, toward as toward_side, rule_text, bar_of, arrow_from, stroke_of, ring_at, rings_of_origin, rings_of, sign_text, sender_class, front_text, title_text, shapes_text, back_text, fact_element, told_element, element as element_of};
+ghost use Rattle.scp_trace.specs.scp_core.specs.History.{peer_at};
+ghost use Rattle.scp_trace.specs.scp_core.specs.Kv.{NodeView};
+ghost use Rattle.scp_draw_marks.specs.Looks.{is_against as is_against_so};
+ghost use Rattle.scp_draw_marks.specs.Lines.{start_of as start_of_mark};
+ghost use Rattle.scp_draw.specs.Elements.{column as column_of, number_of as number_by, beside as beside_side, toward as toward_side, rule_text, bar_of, arrow_from, stroke_to, stroke_of, ring_at, rings_of_origin, rings_of, sign_text, sender_class, front_text, title_text, shapes_text, back_text, fact_element, told_element, reaches as reaches_so, element as element_of};
 
-use scp_core::{Node, Origin};
 use scp_draw_marks::{
-    Mark, came_by, is_against, is_sent, sign_of, word_of_kind, write_across, write_bar,
-    write_class, write_escaped, write_letters, write_line, write_ring,
+    Mark, came_by, is_against, is_sent, is_taken, sign_of, start_of, word_of_kind, write_across,
+    write_bar, write_class, write_escaped, write_letters, write_line, write_ring,
 };
-use scp_facts::{Fact, Telling, Told};
-use scp_stand_slot::Names;
+use scp_trace::below::facts::{Fact, Telling, Told};
+use scp_trace::below::node::{Node, Origin};
+use scp_trace::below::stand_slot::Names;
+use scp_trace::below::types::{ConnId, Fault, NodeId};
 use scp_trace::{Scene, write_told};
-use scp_types::{ConnId, Fault, NodeId};
 use std::alloc::Global;
 
 /// What is drawn: all facts of these nodes, which are as they are at the end, and the marks of the facts.
@@ -33,7 +34,7 @@ pub struct Picture<'a> {
 pub fn column(number: u8) -> u64
     ensures { result ≡ column_of number }
 {
-    5 * u64::from(number)
+    20 * u64::from(number)
 }
 
 fn number_of(id: &NodeId) -> u8
@@ -42,13 +43,23 @@ fn number_of(id: &NodeId) -> u8
     id.0[0]
 }
 
-fn toward(number: u8, other: u8) -> u64
-    ensures { result ≡ toward_side number other }
+fn beside(number: u8, other: u8) -> u64
+    ensures { result ≡ beside_side number other }
 {
     if number < other {
         column(number) + 1
     } else {
         column(number).saturating_sub(1)
+    }
+}
+
+fn toward(number: u8, other: u8) -> u64
+    ensures { result ≡ toward_side number other }
+{
+    if number < other {
+        column(number) + 4
+    } else {
+        column(number).saturating_sub(4)
     }
 }
 
@@ -78,11 +89,16 @@ fn write_bar_of(out: &mut String, mark: &Mark, fact: &Fact) -> Result<(), Fault>
     Ok(())
 }
 
-fn write_arrow(out: &mut String, mark: &Mark, place: Option<(ConnId, u64)>) -> Result<(), Fault>
-    ensures added { OnOk result (string_bytes out.new ≡ string_bytes out.old ++ arrow_from mark.now mark.now.from place) }
+fn write_arrow(
+    out: &mut String,
+    mark: &Mark,
+    start: Option<u64>,
+    place: Option<(ConnId, u64)>,
+) -> Result<(), Fault>
+    ensures added { OnOk result (string_bytes out.new ≡ string_bytes out.old ++ arrow_from mark.now start place) }
     ensures only_memory { IsOkUnless result Fault.NoMemory }
 {
-    if let (Some(row), Some((conn, _))) = (mark.from, place) {
+    if let (Some(row), Some((conn, _))) = (start, place) {
         let sender = number_of(&conn.from);
         write_line(out, "a", column(sender), row, column(mark.node), mark.row)?;
     }
@@ -98,14 +114,21 @@ fn peer_of(node: &Node, link: u8) -> NodeId
     }
 }
 
+fn write_stroke_to(out: &mut String, mark: &Mark, other: u8) -> Result<(), Fault>
+    ensures added { OnOk result (string_bytes out.new ≡ string_bytes out.old ++ stroke_to mark.now other) }
+    ensures only_memory { IsOkUnless result Fault.NoMemory }
+{
+    let (begin, end) = (beside(mark.node, other), toward(mark.node, other));
+    write_line(out, "o", begin, mark.row, end, mark.row)?;
+    Ok(())
+}
+
 fn write_stroke(out: &mut String, node: &Node, mark: &Mark, fact: &Fact) -> Result<(), Fault>
     ensures added { OnOk result (string_bytes out.new ≡ string_bytes out.old ++ stroke_of node.now mark.now fact.now) }
     ensures only_memory { IsOkUnless result Fault.NoMemory }
 {
     if let Fact::Sent(link, _) = fact {
-        let peer = number_of(&peer_of(node, *link));
-        let end = toward(mark.node, peer);
-        write_line(out, "o", column(mark.node), mark.row, end, mark.row)?;
+        return write_stroke_to(out, mark, number_of(&peer_of(node, *link)));
     }
     Ok(())
 }
@@ -217,26 +240,45 @@ fn title_of(picture: Picture<'_>, mark: &Mark, told: &Told) -> Result<String, Fa
     Ok(text)
 }
 
-fn write_shapes(out: &mut String, node: &Node, mark: &Mark, fact: &Fact) -> Result<(), Fault>
-    ensures added { OnOk result (string_bytes out.new ≡ string_bytes out.old ++ shapes_text node.now mark.now fact.now) }
+fn write_shapes(
+    out: &mut String,
+    node: &Node,
+    mark: &Mark,
+    start: Option<u64>,
+    fact: &Fact,
+) -> Result<(), Fault>
+    ensures added { OnOk result (string_bytes out.new ≡ string_bytes out.old ++ shapes_text node.now mark.now start fact.now) }
     ensures only_memory { IsOkUnless result Fault.NoMemory }
 {
     write_rule(out, mark)?;
     write_bar_of(out, mark, fact)?;
-    write_arrow(out, mark, came_by(node, fact))?;
+    write_arrow(out, mark, start, came_by(node, fact))?;
     write_stroke(out, node, mark, fact)?;
     write_rings_of(out, node, mark, fact)?;
     write_sign(out, mark, sign_of(node, mark.topic.kind, fact))
 }
 
-fn write_back(out: &mut String, node: &Node, mark: &Mark, fact: &Fact) -> Result<(), Fault>
-    ensures added { OnOk result (string_bytes out.new ≡ string_bytes out.old ++ back_text node.now mark.now fact.now) }
+fn write_back(
+    out: &mut String,
+    node: &Node,
+    mark: &Mark,
+    start: Option<u64>,
+    fact: &Fact,
+) -> Result<(), Fault>
+    ensures added { OnOk result (string_bytes out.new ≡ string_bytes out.old ++ back_text node.now mark.now start fact.now) }
     ensures only_memory { IsOkUnless result Fault.NoMemory }
 {
     out.push_str("</title>")?;
-    write_shapes(out, node, mark, fact)?;
+    write_shapes(out, node, mark, start, fact)?;
     out.push_str("</g>\n")?;
     Ok(())
+}
+
+/// Whether what the mark says is sent before the node says something newer, or the script sends it and a node takes it.
+fn reaches(picture: Picture<'_>, mark: &Mark, later: &[Mark]) -> bool
+    ensures { result ≡ reaches_so picture.entry.nodes.now picture.entry.tellings.now mark.now later.now }
+{
+    is_sent(mark, later) || is_taken(picture.nodes, picture.tellings, mark, later)
 }
 
 /// The beginning of the element of a mark, before these later marks.
@@ -247,10 +289,10 @@ fn front_of(
     later: &[Mark],
     fact: &Fact,
 ) -> Result<String, Fault>
-    ensures text { IfOk result (λ text. string_bytes text ≡ front_text node.now mark.now (is_sent_so mark.now later.now) (is_against_so picture.entry.nodes.now picture.entry.tellings.now picture.entry.marks.now mark.now) fact.now) }
+    ensures text { IfOk result (λ text. string_bytes text ≡ front_text node.now mark.now (reaches_so picture.entry.nodes.now picture.entry.tellings.now mark.now later.now) (is_against_so picture.entry.nodes.now picture.entry.tellings.now picture.entry.marks.now mark.now) fact.now) }
     ensures only_memory { IsOkUnless result Fault.NoMemory }
 {
-    let sent = is_sent(mark, later);
+    let sent = reaches(picture, mark, later);
     let against = is_against(picture.nodes, picture.tellings, picture.marks, mark);
     let mut front = String::new(picture.alloc);
     write_front(&mut front, node, mark, sent, against, fact)?;
@@ -258,12 +300,13 @@ fn front_of(
 }
 
 /// The end of the element of a mark.
-fn back_of(alloc: Global, node: &Node, mark: &Mark, fact: &Fact) -> Result<String, Fault>
-    ensures text { IfOk result (λ text. string_bytes text ≡ back_text node.now mark.now fact.now) }
+fn back_of(picture: Picture<'_>, node: &Node, mark: &Mark, fact: &Fact) -> Result<String, Fault>
+    ensures text { IfOk result (λ text. string_bytes text ≡ back_text node.now mark.now (start_of_mark picture.entry.nodes.now picture.entry.tellings.now picture.entry.marks.now mark.now) fact.now) }
     ensures only_memory { IsOkUnless result Fault.NoMemory }
 {
-    let mut back = String::new(alloc);
-    write_back(&mut back, node, mark, fact)?;
+    let start = start_of(picture.nodes, picture.tellings, picture.marks, mark);
+    let mut back = String::new(picture.alloc);
+    write_back(&mut back, node, mark, start, fact)?;
     Ok(back)
 }
 
@@ -288,12 +331,12 @@ fn write_fact_element(
     told: &Told,
 ) -> Result<(), Fault>
     requires there { slice_get picture.nodes.now (told.now.node - 1) ≡ Some node.now }
-    ensures added { OnOk result (out.new.items ≡ out.old.items ++ fact_element picture.entry.names.now node.now mark.now (is_sent_so mark.now later.now) (is_against_so picture.entry.nodes.now picture.entry.tellings.now picture.entry.marks.now mark.now) told.now) }
+    ensures added { OnOk result (out.new.items ≡ out.old.items ++ fact_element picture.entry.names.now node.now mark.now (reaches_so picture.entry.nodes.now picture.entry.tellings.now mark.now later.now) (is_against_so picture.entry.nodes.now picture.entry.tellings.now picture.entry.marks.now mark.now) (start_of_mark picture.entry.nodes.now picture.entry.tellings.now picture.entry.marks.now mark.now) told.now) }
     ensures only_memory { IsOkUnless result Fault.NoMemory }
 {
     let front = front_of(picture, node, mark, later, &told.fact)?;
     let title = title_of(picture, mark, told)?;
-    let back = back_of(picture.alloc, node, mark, &told.fact)?;
+    let back = back_of(picture, node, mark, &told.fact)?;
     add_parts(out, front.as_str(), title.as_str(), back.as_str())?;
     Ok(())
 }
@@ -306,7 +349,7 @@ fn write_told_element(
     later: &[Mark],
     told: &Told,
 ) -> Result<(), Fault>
-    ensures added { OnOk result (out.new.items ≡ out.old.items ++ told_element picture.entry.names.now (slice_get picture.entry.nodes.now (told.now.node - 1)) mark.now (is_sent_so mark.now later.now) (is_against_so picture.entry.nodes.now picture.entry.tellings.now picture.entry.marks.now mark.now) told.now) }
+    ensures added { OnOk result (out.new.items ≡ out.old.items ++ told_element picture.entry.names.now (slice_get picture.entry.nodes.now (told.now.node - 1)) mark.now (reaches_so picture.entry.nodes.now picture.entry.tellings.now mark.now later.now) (is_against_so picture.entry.nodes.now picture.entry.tellings.now picture.entry.marks.now mark.now) (start_of_mark picture.entry.nodes.now picture.entry.tellings.now picture.entry.marks.now mark.now) told.now) }
     ensures only_memory { IsOkUnless result Fault.NoMemory }
 {
     match picture.nodes.get(usize::from(told.node.saturating_sub(1))) {

@@ -17,8 +17,9 @@ h1,h2{font-size:20px}
 label{margin-right:12px;white-space:nowrap}
 summary{cursor:pointer;font-weight:600}
 pre{overflow-x:auto;font-size:14px}
-svg{display:block;font:16px ui-monospace,monospace;overflow:hidden}
-text{fill:currentColor;text-anchor:middle;dominant-baseline:central;font-weight:700;paint-order:stroke;stroke:var(--back);stroke-width:4px}
+details{overflow:hidden}
+svg{display:block;font:16px ui-monospace,monospace;overflow:visible}
+text{fill:currentColor;text-anchor:middle;dominant-baseline:central;font-weight:700;paint-order:stroke;stroke:var(--back);stroke-width:5px}
 line{stroke:currentColor;stroke-width:1.5px}
 rect{fill:currentColor;transform:translateX(-.2em)}
 circle{fill:none;stroke:currentColor;stroke-width:2px;display:none}
@@ -28,7 +29,7 @@ line.l{stroke:var(--dim);stroke-width:1px}
 .h,.s{color:var(--dim)}
 text.s{text-anchor:start;font-weight:400}
 line.s{stroke-width:.5px;stroke-dasharray:2 4}
-.a{opacity:.3}
+.a{opacity:.3;marker-end:url(#h)}
 .fresh>.a,.parked>.a,.dropped>.a,.conflict>.a{opacity:1}
 .parked>.a{stroke-dasharray:6 4}
 .dropped>.a{stroke-dasharray:2 4}
@@ -54,6 +55,8 @@ body:has(#kcommands:not(:checked)) g.kcommands{display:none}
 body:has(#kdecisions:not(:checked)) g.kdecisions{display:none}
 body:has(#klinks:not(:checked)) g.klinks{display:none}
 </style>
+<svg style='height:0'><defs><marker id=h viewBox='0 0 8 8' refX=16 refY=4 markerWidth=8 markerHeight=8 markerUnits=userSpaceOnUse orient=auto>
+<path d='M0 1 8 4 0 7z' fill='context-stroke'/></marker></defs></svg>
 <h1>A run of nodes</h1>
 <p>
 ";
@@ -68,18 +71,19 @@ static LEGEND: &str = "<p>
 <label class=kcommands><input type=checkbox checked id=kcommands>commands</label>
 <label class=kdecisions><input type=checkbox checked id=kdecisions>decisions</label>
 <label class=klinks><input type=checkbox checked id=klinks>links</label>
-<details><summary>Legend</summary>
+<details open><summary>Legend</summary>
 <ul>
 <li>Each column is a node. Time goes downwards: a number at the edge is a line of the script; below it stand its rounds, of each node what
 it did in its turn.
 <li>N, P, C, E: the node says a NOMINATE, PREPARE, CONFIRM or EXTERNALIZE, and from there on its column has that colour. Struck through:
 nobody was sent it, since its links were shut, or something newer took its place.
-<li>A stroke beside a sign: it was sent to that side. An arrow ends at a small letter, where the message was taken: n, p, c, e, or r of a
+<li>A stroke beside a sign: it was sent to that side. An arrowhead points at a small letter, where the message was taken: n, p, c, e, or r of a
 record. Full: fresh. Pale: stale, of an old slot, or refused. Dashed to a ?: it waits there. Dotted to an x: it was dropped.
 <li>D: decided; point at it for the quorum. A: applied. !: a command. a: asked for a record. +, /: a connection began, ended. q, t, m:
 quorum sets, time, a miss. f: a queue was full.
 <li>Red: dropped, in conflict with what the same node said before, or decided otherwise than another node.
-<li>Point at anything for its line of the script and of the trace. The boxes hide nodes and kinds; a section is a slot.
+<li>Point at anything for its line of the script and of the trace. The boxes hide nodes and kinds; a section is a slot, which split if
+nodes decided it differently.
 </ul>
 </details>
 ";

@@ -8,11 +8,11 @@ ghost use Rattle.scp_draw.specs.Page.{for_nodes, box_text, drawn_page, page_text
 use crate::element::Picture;
 use crate::frame::{head_text, legend_text, stands_head_text, tail_text};
 use crate::section::{write_boxes, write_sections};
-use scp_core::Node;
 use scp_draw_marks::{Mark, Pen, drawing_of, write_escaped};
-use scp_facts::Telling;
-use scp_stand_slot::Names;
-use scp_types::Fault;
+use scp_trace::below::facts::Telling;
+use scp_trace::below::node::Node;
+use scp_trace::below::stand_slot::Names;
+use scp_trace::below::types::Fault;
 use std::alloc::Global;
 
 /// All that is drawn of a run: its nodes, and what was noted of them.

@@ -1,16 +1,16 @@
 //! Playing a script and noting all its facts.
 ghost use Rattle.std.specs.Prelude.{◌≡◌, ◌≢◌, [], All, IfOk, IsOkUnless, true, false, length};
-ghost use Rattle.scp_script.specs.Script.{AreAdmitted};
-ghost use Rattle.scp_script.specs.Nodes.{NamesNodes};
+ghost use Rattle.scp_trace.specs.scp_script.specs.Script.{AreAdmitted};
+ghost use Rattle.scp_trace.specs.scp_script.specs.Nodes.{NamesNodes};
 ghost use Rattle.scp_trace.specs.scp_line.specs.Nodes.{HaveRoom};
 ghost use Rattle.scp_draw.specs.Lines.{IsToldTo};
 ghost use Rattle.scp_draw.specs.inside.Leaving.{IsLeft};
 
-use scp_facts::{FactWatch, Telling, a_step_is_told_as_it_happened};
-use scp_script::Command;
+use scp_trace::below::facts::{FactWatch, Telling, a_step_is_told_as_it_happened};
+use scp_trace::below::script::Command;
+use scp_trace::below::turn::{Event, KvDriver, Network, Node, Reply, Watch};
+use scp_trace::below::types::Fault;
 use scp_trace::{LineWatch, Stopped, new_network, play_lines};
-use scp_turn::{Event, KvDriver, Network, Node, Reply, Watch};
-use scp_types::Fault;
 use std::alloc::Global;
 
 /// A watch that notes what happens at nodes, in the order of the steps, and which line is done.
@@ -20,7 +20,7 @@ struct LineFacts {
 }
 
 impl Watch<KvDriver> for LineFacts {
-    ghost use Rattle.scp_facts.specs.Watching.{Awaits, TellsStep};
+    ghost use Rattle.scp_trace.specs.scp_facts.specs.Watching.{Awaits, TellsStep};
 
     ghost notes_before = { λ old number event node new. Awaits old.facts number event node new.facts };
 
@@ -37,7 +37,7 @@ impl Watch<KvDriver> for LineFacts {
 
 impl LineWatch for LineFacts {
     ghost use Rattle.std.specs.Prelude.{◌≡◌};
-    ghost use Rattle.scp_facts.specs.Watching.{BeginsLine};
+    ghost use Rattle.scp_trace.specs.scp_facts.specs.Watching.{BeginsLine};
 
     ghost notes_begin = { λ old line _ _ new. BeginsLine old.facts line new.facts };
 

@@ -1,12 +1,15 @@
 //! The sections of the page.
-ghost use Rattle.std.specs.Prelude.{◌≡◌, ◌++◌, [], IfOk, OnOk, IsOkUnless, flat_map, if◌then◌else◌, length, nat_le, string_bytes};
+ghost use Rattle.std.specs.Prelude.{◌≡◌, ◌++◌, [], IfOk, OnOk, IsOkUnless, flat_map, if◌then◌else◌, string_bytes};
+ghost use Rattle.std.specs.List.{list_any};
 ghost use Rattle.scp_draw_marks.specs.Topics.{same_slot as same_slots};
 ghost use Rattle.scp_draw.specs.Elements.{element};
-ghost use Rattle.scp_draw.specs.Page.{for_nodes, box_text, label_text, stem_text, elements_of, slot_heading, heading, open_text, room_text, section_front, section_text};
+ghost use Rattle.scp_draw.specs.Page.{for_nodes, box_text, label_text, stem_text, elements_of, slot_heading, splits as splits_so, is_split as is_split_by, split_text, heading, first_slot as first_slot_of, is_open as is_open_among, open_text, room as room_of, room_text, section_front, section_text, section_in};
 
 use crate::element::{Picture, column, write_element};
-use scp_draw_marks::{Mark, Pen, decided_count, same_slot, write_down, write_letters};
-use scp_types::Fault;
+use scp_draw_marks::{Mark, Pen, decided_count, is_against, same_slot, write_down, write_letters};
+use scp_trace::below::facts::Telling;
+use scp_trace::below::node::Node;
+use scp_trace::below::types::Fault;
 
 /// Adds the box that hides or shows a node.
 fn write_box(out: &mut String, number: u8) -> Result<(), Fault>
@@ -106,18 +109,86 @@ fn write_slot(out: &mut String, slot: u64, decided: usize, count: u8) -> Result<
     Ok(())
 }
 
+/// Whether the mark is a decision of the slot whose value isn't that of the slot's first decision, among all marks.
+fn splits(
+    nodes: &[Node],
+    tellings: &[Telling],
+    all: &[Mark],
+    slot: Option<u64>,
+    mark: &Mark,
+) -> bool
+    ensures { result ≡ splits_so nodes.now tellings.now all.now slot mark.now }
+{
+    same_slot(mark.topic.slot, slot) && is_against(nodes, tellings, all, mark)
+}
+
+/// Whether one of these marks is a decision of the slot whose value isn't that of the slot's first decision, among all marks.
+fn has_split(
+    nodes: &[Node],
+    tellings: &[Telling],
+    all: &[Mark],
+    slot: Option<u64>,
+    marks: &[Mark],
+) -> bool
+    ensures { result ≡ list_any (splits_so nodes.now tellings.now all.now slot) marks.now }
+{
+    for mark in marks {
+        if splits(nodes, tellings, all, slot, mark) {
+            return true;
+        }
+    }
+    false
+}
+
+/// Whether nodes decided the slot differently.
+fn is_split(picture: Picture<'_>, slot: Option<u64>) -> bool
+    ensures { result ≡ is_split_by picture.entry.nodes.now picture.entry.tellings.now picture.entry.marks.now slot }
+{
+    has_split(
+        picture.nodes,
+        picture.tellings,
+        picture.marks,
+        slot,
+        picture.marks,
+    )
+}
+
+/// The word for a slot that nodes decided differently.
+fn word_of_split(split: bool) -> &'static str
+    ensures { result.now ≡ split_text split }
+{
+    if split { ", split" } else { "" }
+}
+
+/// Adds the words for a slot, and that nodes decided it differently if they did.
+fn write_slot_heading(
+    out: &mut String,
+    slot: u64,
+    decided: usize,
+    count: u8,
+    split: bool,
+) -> Result<(), Fault>
+    ensures added { OnOk result (string_bytes out.new ≡ string_bytes out.old ++ (slot_heading slot decided count ++ split_text split)) }
+    ensures only_memory { IsOkUnless result Fault.NoMemory }
+{
+    write_slot(out, slot, decided, count)?;
+    out.push_str(word_of_split(split))?;
+    Ok(())
+}
+
 /// Adds the heading of a section.
 fn write_heading(
     out: &mut String,
     count: u8,
+    split: bool,
     marks: &[Mark],
     slot: Option<u64>,
 ) -> Result<(), Fault>
-    ensures added { OnOk result (string_bytes out.new ≡ string_bytes out.old ++ heading count marks.now slot) }
+    ensures added { OnOk result (string_bytes out.new ≡ string_bytes out.old ++ heading count split marks.now slot) }
     ensures only_memory { IsOkUnless result Fault.NoMemory }
 {
     match slot {
-        Some(number) => write_slot(out, number, decided_count(slot, marks), count),
+        Some(number) => write_slot_heading(out, number, decided_count(slot, marks), count, split),
         None => {
             out.push_str("Links, quorum sets and time")?;
             Ok(())
@@ -125,14 +196,41 @@ fn write_heading(
     }
 }
 
-/// Whether a section is open at first.
-fn word_of_open(few: bool, slot: Option<u64>) -> &'static str
-    ensures { result.now ≡ open_text few slot }
+/// The first slot that has a section.
+fn first_slot(pens: &[Pen]) -> Option<u64>
+    ensures { result ≡ first_slot_of pens.now }
+{
+    match pens.split_first() {
+        Some((pen, pens)) => match pen.slot {
+            Some(slot) => Some(slot),
+            None => first_slot(pens),
+        },
+        None => None,
+    }
+}
+
+/// Whether a section is open at first, if it is a slot's: there are few, or it is the first slot's.
+fn is_open(pens: &[Pen], pen: &Pen) -> bool
+    ensures { result ≡ is_open_among pens.now pen.now }
+{
+    pens.len() <= 3 || same_slot(pen.slot, first_slot(pens))
+}
+
+/// The word for a section that is open at first.
+fn word_of_open(opened: bool, slot: Option<u64>) -> &'static str
+    ensures { result.now ≡ open_text opened slot }
 {
     match slot {
-        Some(_) if few => " open",
+        Some(_) if opened => " open",
         _ => "",
     }
+}
+
+/// So many hundredths of the width of a picture with this number of columns are as wide as the page.
+fn room(count: u8) -> u64
+    ensures { result ≡ room_of count }
+{
+    column(count) + 20
 }
 
 /// Adds the size of a picture with this number of columns and rows.
@@ -140,27 +238,33 @@ fn write_room(out: &mut String, count: u8, rows: u64) -> Result<(), Fault>
     ensures added { OnOk result (string_bytes out.new ≡ string_bytes out.old ++ room_text count rows) }
     ensures only_memory { IsOkUnless result Fault.NoMemory }
 {
-    let width = column(count);
-    write!(out, "<svg style='width:{width}em;")?;
+    let width = room(count);
+    write!(out, "<svg style='width:calc(10000% / {width});")?;
     write!(out, "height:calc({rows}em + 64px)'>")?;
     Ok(())
 }
 
 /// The text before the elements of a section.
-fn front_of(picture: Picture<'_>, count: u8, few: bool, pen: &Pen) -> Result<String, Fault>
-    ensures text { IfOk result (λ text. string_bytes text ≡ section_front count few picture.entry.marks.now pen.now) }
+fn front_of(
+    picture: Picture<'_>,
+    count: u8,
+    opened: bool,
+    split: bool,
+    pen: &Pen,
+) -> Result<String, Fault>
+    ensures text { IfOk result (λ text. string_bytes text ≡ section_front count opened split picture.entry.marks.now pen.now) }
     ensures only_memory { IsOkUnless result Fault.NoMemory }
 {
     let mut text = String::new(picture.alloc);
     text.push_str("<details")?;
-    text.push_str(word_of_open(few, pen.slot))?;
+    text.push_str(word_of_open(opened, pen.slot))?;
     text.push_str("><summary>")?;
-    write_heading(&mut text, count, picture.marks, pen.slot)?;
+    write_heading(&mut text, count, split, picture.marks, pen.slot)?;
     text.push_str("</summary>\n")?;
     write_room(&mut text, count, pen.floor)?;
-    text.push_str("<g transform='translate(-32 24)'>")?;
+    text.push_str("<g transform='translate(0 24)'>")?;
     write_labels(&mut text, count)?;
-    text.push_str("</g><g transform='translate(-32 48)'>")?;
+    text.push_str("</g><g transform='translate(0 48)'>")?;
     write_stems(&mut text, count)?;
     text.push_str("\n")?;
     Ok(text)
@@ -171,13 +275,14 @@ fn write_section(
     out: &mut Vec<u8>,
     picture: Picture<'_>,
     count: u8,
-    few: bool,
+    opened: bool,
     pen: &Pen,
 ) -> Result<(), Fault>
-    ensures added { OnOk result (out.new.items ≡ out.old.items ++ section_text picture.entry.names.now picture.entry.nodes.now picture.entry.tellings.now count few picture.entry.marks.now pen.now) }
+    ensures added { OnOk result (out.new.items ≡ out.old.items ++ section_text picture.entry.names.now picture.entry.nodes.now picture.entry.tellings.now count opened picture.entry.marks.now pen.now) }
     ensures only_memory { IsOkUnless result Fault.NoMemory }
 {
-    let front = front_of(picture, count, few, pen)?;
+    let split = is_split(picture, pen.slot);
+    let front = front_of(picture, count, opened, split, pen)?;
     out.extend_from_slice(front.as_bytes())?;
     write_elements(out, picture, pen.slot)?;
     out.extend_from_slice(b"</g></svg></details>\n")?;
@@ -191,12 +296,11 @@ pub fn write_sections(
     count: u8,
     pens: &[Pen],
 ) -> Result<(), Fault>
-    ensures added { OnOk result (out.new.items ≡ out.old.items ++ flat_map (section_text picture.entry.names.now picture.entry.nodes.now picture.entry.tellings.now count (nat_le (length pens.now) 3) picture.entry.marks.now) pens.now) }
+    ensures added { OnOk result (out.new.items ≡ out.old.items ++ flat_map (section_in picture.entry.names.now picture.entry.nodes.now picture.entry.tellings.now count picture.entry.marks.now pens.now) pens.now) }
     ensures only_memory { IsOkUnless result Fault.NoMemory }
 {
-    let few = pens.len() <= 3;
     for pen in pens {
-        write_section(out, picture, count, few, pen)?;
+        write_section(out, picture, count, is_open(pens, pen), pen)?;
     }
     Ok(())
 }

@@ -2,7 +2,7 @@
 use Rattle.std.proofs.Common.{◌≡◌, ◌+◌, ◌-◌, ◌<◌, ◌≤◌, ℕ, zero, suc, Bool, true, false, cond, List, [], ◌∷◌, ◌++◌, Option, Some, None, length, get_or, set, take, drop, filter, refl, sym, ap, ◌∙◌, append_assoc, append-nil, arith, drop-cons}
 use Rattle.std.proofs.lemmas.List.{take-append-drop, take-set, drop-set, take_more, take_all, drop_all}
 use Rattle.std.proofs.lemmas.List.Elements.{filter-append}
-use Rattle.scp_types.specs.declared.names.ConnId.{ConnId}
+use Rattle.scp_words.specs.scp_types.specs.declared.names.ConnId.{ConnId}
 use Rattle.scp_draw_marks.specs.declared.topic.Topic.{Topic}
 use Rattle.scp_draw_marks.specs.declared.topic.Letter.{Letter}
 use Rattle.scp_draw_marks.specs.declared.marks.Pen.{Pen}

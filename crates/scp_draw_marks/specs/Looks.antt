@@ -1,11 +1,11 @@
 -- How the facts of a run look in its picture: their classes, which the page colours and hides, and their signs (this project's profile).
 use Rattle.std.specs.Prelude.{ℕ, ◌-◌, ◌&&◌, ◌||◌, not, Bool, true, false, List, [], ◌∷◌, ◌++◌, Option, Some, None, codes, filter, nat_eq, slice_get, if◌then◌else◌}
 use Rattle.std.specs.Cmp.Lexicographic.{pointwise}
-use Rattle.scp_envelope.specs.declared.statement.Envelope.{Envelope}
-use Rattle.scp_ledger.specs.declared.journal.Decision.{Decision}
-use Rattle.scp_ledger.specs.declared.journal.Fate.{Fate}
-use Rattle.scp_ledger.specs.declared.journal.Fate.TheVariants as fate
-use Rattle.scp_core.specs.Kv.{NodeView}
+use Rattle.scp_words.specs.scp_envelope.specs.declared.statement.Envelope.{Envelope}
+use Rattle.scp_words.specs.scp_ledger.specs.declared.journal.Decision.{Decision}
+use Rattle.scp_words.specs.scp_ledger.specs.declared.journal.Fate.{Fate}
+use Rattle.scp_words.specs.scp_ledger.specs.declared.journal.Fate.TheVariants as fate
+use Rattle.scp_facts.specs.scp_core.specs.Kv.{NodeView}
 use Rattle.scp_words.specs.Words.{verdict_word, fate_word}
 use Rattle.scp_facts.specs.declared.fact.Fact.{Fact}
 use Rattle.scp_facts.specs.declared.fact.Fact.TheVariants.{Full, Came, Given, Discarded, Opened, Parked, Heard, Ticked, Missed, Entered, Obeyed, Says, Decided, Applied, Answers, Sent}

@@ -2,9 +2,9 @@
 -- of no slot. Time goes downwards. Each line of the script begins below everything before it, and so does each round. In a round, the
 -- nodes are side by side, and the facts of one node are below one another. What a node takes is below the row in which it came.
 use Rattle.std.specs.Prelude.{ℕ, zero, suc, ◌+◌, ◌-◌, Bool, true, false, List, [], ◌∷◌, ◌++◌, Option, Some, None, filter, max, nat_eq, nat_lt, slice_get, if◌then◌else◌}
-use Rattle.scp_types.specs.declared.names.ConnId.{ConnId}
-use Rattle.scp_wire.specs.Reading.{reading_of}
-use Rattle.scp_core.specs.Kv.{NodeView}
+use Rattle.scp_words.specs.scp_types.specs.declared.names.ConnId.{ConnId}
+use Rattle.scp_words.specs.scp_wire.specs.Reading.{reading_of}
+use Rattle.scp_facts.specs.scp_core.specs.Kv.{NodeView}
 use Rattle.scp_facts.specs.declared.fact.Fact.{Fact}
 use Rattle.scp_facts.specs.declared.fact.Fact.TheVariants.{Full, Came, Given, Discarded, Opened, Parked, Heard, Ticked, Missed, Entered, Obeyed, Says, Decided, Applied, Answers, Sent}
 use Rattle.scp_facts.specs.declared.fact.Told.{Told}

@@ -1,18 +1,18 @@
 -- The topic of a fact: its kind, and its slot if it has one (this project's profile).
 use Rattle.std.specs.Prelude.{ℕ, ◌&&◌, Bool, true, false, Option, Some, None, length, nat_eq, slice_get}
-use Rattle.scp_types.specs.declared.names.ConnId.{ConnId}
-use Rattle.scp_envelope.specs.declared.statement.Envelope.{Envelope as Signed}
-use Rattle.scp_envelope.specs.declared.statement.Pledges.{Pledges}
-use Rattle.scp_envelope.specs.declared.statement.Pledges.TheVariants as pledges
-use Rattle.scp_wire.specs.Connections.{same_conn}
-use Rattle.scp_wire.specs.declared.link.Command.{Command}
-use Rattle.scp_wire.specs.declared.link.Command.TheVariants as command
-use Rattle.scp_wire.specs.declared.message.Message.{Message}
-use Rattle.scp_wire.specs.declared.message.Message.TheVariants.{Envelope, GetSet, Set, NoSet, GetRecord, Record, Records as Batch}
-use Rattle.scp_ledger.specs.declared.journal.Decision.{Decision}
-use Rattle.scp_ledger.specs.declared.journal.Fate.{Fate}
-use Rattle.scp_ledger.specs.declared.journal.Fate.TheVariants as fate
-use Rattle.scp_core.specs.Kv.{NodeView}
+use Rattle.scp_words.specs.scp_types.specs.declared.names.ConnId.{ConnId}
+use Rattle.scp_words.specs.scp_envelope.specs.declared.statement.Envelope.{Envelope as Signed}
+use Rattle.scp_words.specs.scp_envelope.specs.declared.statement.Pledges.{Pledges}
+use Rattle.scp_words.specs.scp_envelope.specs.declared.statement.Pledges.TheVariants as pledges
+use Rattle.scp_words.specs.scp_wire.specs.Connections.{same_conn}
+use Rattle.scp_words.specs.scp_wire.specs.declared.link.Command.{Command}
+use Rattle.scp_words.specs.scp_wire.specs.declared.link.Command.TheVariants as command
+use Rattle.scp_words.specs.scp_wire.specs.declared.message.Message.{Message}
+use Rattle.scp_words.specs.scp_wire.specs.declared.message.Message.TheVariants.{Envelope, GetSet, Set, NoSet, GetRecord, Record, Records as Batch}
+use Rattle.scp_words.specs.scp_ledger.specs.declared.journal.Decision.{Decision}
+use Rattle.scp_words.specs.scp_ledger.specs.declared.journal.Fate.{Fate}
+use Rattle.scp_words.specs.scp_ledger.specs.declared.journal.Fate.TheVariants as fate
+use Rattle.scp_facts.specs.scp_core.specs.Kv.{NodeView}
 use Rattle.scp_facts.specs.declared.fact.Fact.{Fact}
 use Rattle.scp_facts.specs.declared.fact.Fact.TheVariants.{Parked, Entered}
 use Rattle.scp_draw_marks.specs.declared.topic.Kind.{Kind}

@@ -1,15 +1,15 @@
 //! The topics of facts, and the messages that they belong to.
 ghost use Rattle.std.specs.Prelude.{◌≡◌, List, IfOk, IsOkUnless, option_copied, slice_get};
-ghost use Rattle.scp_wire.specs.Reading.{reading_of};
+ghost use Rattle.scp_words.specs.scp_wire.specs.Reading.{reading_of};
 ghost use Rattle.scp_draw_marks.specs.Topics.{same_slot as same_slots, of_slot as by_slot, of_none as by_none, kind_of_pledges as kind_by_pledges, topic_of_envelope as topic_by_envelope, topic_of_message as topic_by_message, topic_of_reading, numbers_of_message as numbers_by_message, numbers_of_reading, has_number as has_number_so, is_of as is_of_so, topic_of_command as topic_by_command, topic_of_letter as topic_by_letter, topic_of_entry as topic_by_entry, topic_of_decision as topic_by_decision, came_by_entry as came_by_fate, came_by as came_by_fact};
 ghost use Rattle.scp_draw_marks.specs.Places.{letter_of, topic_of_fact as topic_by_fact};
 
 use crate::topic::{Kind, Letter, Topic};
-use scp_core::{Command, Decision, Fate, Node, SharedDecision};
-use scp_envelope::{Envelope, Pledges};
 use scp_facts::Fact;
-use scp_types::{ConnId, Fault};
-use scp_wire::{Message, decode};
+use scp_facts::below::node::{Command, Decision, Fate, Node, SharedDecision};
+use scp_words::below::envelope::{Envelope, Pledges};
+use scp_words::below::types::{ConnId, Fault};
+use scp_words::below::wire::{Message, decode};
 use std::alloc::Global;
 
 /// Whether both are of the same slot, or both are of none.

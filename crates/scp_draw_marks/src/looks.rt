@@ -5,10 +5,10 @@ ghost use Rattle.scp_draw_marks.specs.Looks.{kind_word, said_sign, taken_sign, e
 use crate::facts::same_slot;
 use crate::marks::{Act, Mark};
 use crate::topic::Kind;
-use scp_core::{Fate, Node, SharedDecision};
-use scp_envelope::SharedEnvelope;
+use scp_facts::below::node::{Fate, Node, SharedDecision};
 use scp_facts::{Fact, Telling};
-use scp_types::{Fault, Value};
+use scp_words::below::envelope::SharedEnvelope;
+use scp_words::below::types::{Fault, Value};
 use scp_words::{word_of_fate, word_of_verdict};
 
 // ---- words and signs

@@ -1,14 +1,14 @@
 //! Where facts are in a picture.
 ghost use Rattle.std.specs.Prelude.{◌≡◌, ◌≤◌, ◌-◌, IfOk, OnOk, IsOkUnless, Some, max, nat_eq, option_map, slice_get};
-ghost use Rattle.scp_wire.specs.Reading.{reading_of};
+ghost use Rattle.scp_words.specs.scp_wire.specs.Reading.{reading_of};
 ghost use Rattle.scp_draw_marks.specs.Topics.{topic_of_reading, numbers_of_reading, came_by as came_by_fact};
 ghost use Rattle.scp_draw_marks.specs.Places.{newest as newest_in, up as up_from, next_letter, with_letters, letter_of as letter_by, row_of_letter as row_by_letter, topic_of_fact as topic_by_fact, act_of as act_by, takes_row as takes_row_by, new_pen, pen_of as pen_by, with_pen as with_pen_of, on_line as on_line_of, at_node as at_node_of, below as below_of, with_floor as with_floor_of, blank, marked, posted, pen_on as pen_on_by, moved as moved_by, shown as shown_so, shown_by, with_fact as with_fact_of, with_told as with_told_of, with_telling as with_telling_of, drawn as drawn_of};
 
 use crate::facts::{came_by, is_of, post_of, same_slot, topic_of_fact};
 use crate::topic::{Letter, Topic};
-use scp_core::Node;
+use scp_facts::below::node::Node;
 use scp_facts::{Fact, Telling, Told};
-use scp_types::{ConnId, Fault};
+use scp_words::below::types::{ConnId, Fault};
 use std::alloc::Global;
 use std::marker::Model;
 

@@ -1,6 +1,6 @@
 //! The pieces of a picture as text.
 ghost use Rattle.std.specs.Prelude.{◌≡◌, ◌++◌, OnOk, string_bytes};
-ghost use Rattle.scp_draw_marks.specs.Pieces.{escaped_byte, escaped, begun_text, length_text, line_text, down_text, across_text, bar_text, ring_text, letters_text};
+ghost use Rattle.scp_draw_marks.specs.Pieces.{escaped_byte, escaped, begun_text, length_text, place_text, line_text, down_text, across_text, bar_text, ring_text, letters_text};
 
 use std::alloc::AllocError;
 
@@ -42,6 +42,13 @@ fn write_length(out: &mut String, name: &str, units: u64) -> Result<(), AllocErr
     write!(out, " {name}='{units}em'")
 }
 
+/// Adds an attribute that is a place to the right.
+fn write_place(out: &mut String, name: &str, units: u64) -> Result<(), AllocError>
+    ensures { OnOk result (string_bytes out.new ≡ string_bytes out.old ++ place_text name.now units) }
+{
+    write!(out, " {name}='{units}%'")
+}
+
 /// Adds a line of this class between two points.
 pub fn write_line(
     out: &mut String,
@@ -54,9 +61,9 @@ pub fn write_line(
     ensures { OnOk result (string_bytes out.new ≡ string_bytes out.old ++ line_text class.now x1 y1 x2 y2) }
 {
     begin(out, "line", class)?;
-    write_length(out, "x1", x1)?;
+    write_place(out, "x1", x1)?;
     write_length(out, "y1", y1)?;
-    write_length(out, "x2", x2)?;
+    write_place(out, "x2", x2)?;
     write_length(out, "y2", y2)?;
     out.push_str("/>")
 }
@@ -66,20 +73,20 @@ pub fn write_down(out: &mut String, class: &str, x: u64) -> Result<(), AllocErro
     ensures { OnOk result (string_bytes out.new ≡ string_bytes out.old ++ down_text class.now x) }
 {
     begin(out, "line", class)?;
-    write_length(out, "x1", x)?;
-    write_length(out, "x2", x)?;
+    write_place(out, "x1", x)?;
+    write_place(out, "x2", x)?;
     out.push_str(" y2='100%'/>")
 }
 
-/// Adds a line of this class from a point to the right edge.
+/// Adds a line of this class from a point to the right, beyond what is shown.
 pub fn write_across(out: &mut String, class: &str, x: u64, y: u64) -> Result<(), AllocError>
     ensures { OnOk result (string_bytes out.new ≡ string_bytes out.old ++ across_text class.now x y) }
 {
     begin(out, "line", class)?;
-    write_length(out, "x1", x)?;
+    write_place(out, "x1", x)?;
     write_length(out, "y1", y)?;
     write_length(out, "y2", y)?;
-    out.push_str(" x2='100%'/>")
+    out.push_str(" x2='1000%'/>")
 }
 
 /// Adds a bar of this class from a point to the bottom.
@@ -87,7 +94,7 @@ pub fn write_bar(out: &mut String, class: &str, x: u64, y: u64) -> Result<(), Al
     ensures { OnOk result (string_bytes out.new ≡ string_bytes out.old ++ bar_text class.now x y) }
 {
     begin(out, "rect", class)?;
-    write_length(out, "x", x)?;
+    write_place(out, "x", x)?;
     write_length(out, "y", y)?;
     out.push_str(" width='.4em' height='100%'/>")
 }
@@ -97,7 +104,7 @@ pub fn write_ring(out: &mut String, class: &str, x: u64, y: u64) -> Result<(), A
     ensures { OnOk result (string_bytes out.new ≡ string_bytes out.old ++ ring_text class.now x y) }
 {
     begin(out, "circle", class)?;
-    write_length(out, "cx", x)?;
+    write_place(out, "cx", x)?;
     write_length(out, "cy", y)?;
     out.push_str(" r='.6em'/>")
 }
@@ -113,7 +120,7 @@ pub fn write_letters(
     ensures { OnOk result (string_bytes out.new ≡ string_bytes out.old ++ letters_text class.now x y letters.now) }
 {
     begin(out, "text", class)?;
-    write_length(out, "x", x)?;
+    write_place(out, "x", x)?;
     write_length(out, "y", y)?;
     out.push_str(">")?;
     out.push_str(letters)?;

@@ -1,6 +1,6 @@
 //! The topics of facts.
 
-use scp_types::ConnId;
+use scp_words::below::types::ConnId;
 
 /// The kinds of facts, each of which a reader may hide.
 #[derive(Clone, Copy, PartialEq, Eq)]

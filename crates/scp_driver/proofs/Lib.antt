@@ -1,1 +1,2 @@
+mod Bases
 mod Greatest

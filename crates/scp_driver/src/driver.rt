@@ -2,7 +2,7 @@
 ghost use Rattle.std.specs.Prelude.{◌≡◌, ◌≢◌, ◌<◌, ◌≤◌, ℕ, List, [], length, IfOk, IfSome, All, IsOkUnless};
 ghost use Rattle.scp_driver.specs.Driver.{IsFull};
 
-use scp_types::{Fault, Slot, Value};
+use scp_kv::below::types::{Fault, Slot, Value};
 use std::alloc::Global;
 
 /// How far a value is validated.

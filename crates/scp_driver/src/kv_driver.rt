@@ -2,19 +2,20 @@
 ghost use Rattle.std.specs.Prelude.{◌≡◌, ◌≢◌, ◌≤◌, ℕ, List, [], true, false, not, is_some, OnOk, IfOk, IsOkUnless};
 ghost use Rattle.std.specs.FinMap as map;
 ghost use Rattle.scp_kv.specs.Op.{ops_in};
+ghost use Rattle.scp_kv.specs.Saved.{bytes_of, state_of};
 ghost use Rattle.scp_kv.specs.State.{after_value};
 ghost use Rattle.scp_driver.specs.Kv.{kv_says, greatest, greatest_from, leader_place, IsGreatest, IsPlace};
-ghost use Rattle.scp_driver.specs.KvLaws.{greatest_full, list_is_short, no_list_stays};
+ghost use Rattle.scp_driver.specs.KvLaws.{greatest_full, list_is_short, no_list_stays, none_say_the_empty_map};
 
 use crate::application::Application;
 use crate::driver::{Driver, Level};
-use scp_kv::{KvState, apply_value, is_ops};
-use scp_types::{Fault, Slot, Value};
+use scp_kv::below::types::{Fault, Slot, Value};
+use scp_kv::{KvState, apply_value, is_ops, the_bytes_of_a_state_are_its_own};
 use std::alloc::Global;
 
 /// The product's application (this project's profile). Operation lists are fully validated, and everything else is invalid;
 /// nothing is taken from an invalid value. The composite is the greatest candidate by bytes, and nodes lead in turn. The state
-/// is a map from keys to values, to which each list's operations are applied.
+/// is a map from keys to values, to which each list's operations are applied. The bytes of a state are the XDR of its entries.
 #[derive(Clone, Copy)]
 pub struct KvDriver;
 
@@ -72,8 +73,25 @@ impl Application for KvDriver {
 
     ghost is_refused = { λ state value. not (is_some (ops_in value)) };
 
+    ghost begins = { state_of };
+
+    ghost written = { bytes_of };
+
     fn new_state(alloc: Global) -> KvState {
         KvState::new(alloc)
+    }
+
+    fn begin(alloc: Global, bytes: &[u8]) -> Result<KvState, Fault> {
+        the_bytes_of_a_state_are_its_own();
+        if bytes.is_empty() {
+            return Ok(KvState::new(alloc));
+        }
+        KvState::decode(alloc, bytes)
+    }
+
+    fn write(alloc: Global, state: &KvState) -> Result<Vec<u8>, Fault> {
+        the_bytes_of_a_state_are_its_own();
+        state.encode(alloc)
     }
 
     fn refuses(_state: &KvState, value: &Value) -> bool {
@@ -83,6 +101,8 @@ impl Application for KvDriver {
     fn apply(state: &mut KvState, value: &Value) -> Result<(), Fault> {
         apply_value(state, value)
     }
+
+    ghost begins_first = { none_say_the_empty_map };
 
     ghost refused_stays = { no_list_stays };
 }

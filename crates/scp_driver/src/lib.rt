@@ -3,6 +3,7 @@
 #![tactic(auto)]
 
 mod application;
+pub mod below;
 mod driver;
 mod kv_driver;
 

@@ -2,19 +2,19 @@
 use denote.Param.Send.{IsSend, sendable, view_send}
 use denote.Param.SendFields.{declared_send, variants_send}
 use Rattle.std.proofs.Crossing.{crosses}
-use Rattle.scp_types.proofs.names.ConnId.TheSendSync as conns
-use Rattle.scp_types.proofs.names.Seq.TheSendSync as seqs
-use Rattle.scp_quorum.specs.contracts.quorum_set.QuorumSet as set
-use Rattle.scp_quorum.proofs.quorum_set.QuorumSet.TheLaws.TheKnot.{send-QuorumSet}
-use Rattle.scp_wire.proofs.boxed.BoxedEnvelope.TheSendSync as boxes
-use Rattle.scp_wire.proofs.link.Cause.TheSendSync as causes
-use Rattle.scp_wire.proofs.link.Command.TheSendSync as commands
-use Rattle.scp_wire.specs.contracts.message.Message as message
-use Rattle.scp_wire.specs.contracts.side.SideMessage as side
-use Rattle.scp_wire.specs.contracts.fitting.FittingMessage as fitting
-use Rattle.scp_wire.specs.contracts.fitting.FittingMessage.TheInside as fitting_inside
-use Rattle.scp_wire.specs.contracts.carried.Carried as carried
-use Rattle.scp_wire.specs.contracts.link.Inbound as inbound
+use Rattle.scp_ledger.specs.scp_types.proofs.names.ConnId.TheSendSync as conns
+use Rattle.scp_ledger.specs.scp_types.proofs.names.Seq.TheSendSync as seqs
+use Rattle.scp_ledger.specs.scp_quorum.specs.contracts.quorum_set.QuorumSet as set
+use Rattle.scp_ledger.specs.scp_quorum.proofs.quorum_set.QuorumSet.TheLaws.TheKnot.{send-QuorumSet}
+use Rattle.scp_ledger.specs.scp_wire.proofs.boxed.BoxedEnvelope.TheSendSync as boxes
+use Rattle.scp_ledger.specs.scp_wire.proofs.link.Cause.TheSendSync as causes
+use Rattle.scp_ledger.specs.scp_wire.proofs.link.Command.TheSendSync as commands
+use Rattle.scp_ledger.specs.scp_wire.specs.contracts.message.Message as message
+use Rattle.scp_ledger.specs.scp_wire.specs.contracts.side.SideMessage as side
+use Rattle.scp_ledger.specs.scp_wire.specs.contracts.fitting.FittingMessage as fitting
+use Rattle.scp_ledger.specs.scp_wire.specs.contracts.fitting.FittingMessage.TheInside as fitting_inside
+use Rattle.scp_ledger.specs.scp_wire.specs.contracts.carried.Carried as carried
+use Rattle.scp_ledger.specs.scp_wire.specs.contracts.link.Inbound as inbound
 
 of_set : IsSend set.the_row → IsSend message.the_row
 of_set s = search (sendable, crosses, boxes.the_send) depth 40

@@ -1,6 +1,6 @@
 -- What contracts see of the ends of a channel.
 use Rattle.std.specs.Prelude.{◌≡◌, ℕ, ◌<◌, ◌≤◌, ◌==◌, ◌||◌, Bool, true, false, List, [], ◌∷◌, ◌++◌, length, slice_get, Some}
-use Rattle.scp_types.specs.declared.limits.TheConstants.{CAPACITY_LIMIT, NODE_LIMIT}
+use Rattle.scp_ledger.specs.scp_types.specs.declared.limits.TheConstants.{CAPACITY_LIMIT, NODE_LIMIT}
 use Rattle.atomic_table.specs.Seated.{TableId}
 use Rattle.atomic_table.specs.declared.badge.Badge.{Badge}
 use Rattle.crossbeam_channel.specs.declared.flavors.array.Key.{Key}

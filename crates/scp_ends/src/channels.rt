@@ -9,9 +9,9 @@ use crate::rule::Any;
 use crate::tail::LinkTx;
 use crate::window::InWindow;
 use scp_ledger::Onward;
-use scp_pending::Ready;
-use scp_types::{Fault, NodeId};
-use scp_wire::{Inbound, LinkItem};
+use scp_ledger::below::pending::Ready;
+use scp_ledger::below::types::{Fault, NodeId};
+use scp_ledger::below::wire::{Inbound, LinkItem};
 use std::alloc::Global;
 
 /// The receiving end of a link.

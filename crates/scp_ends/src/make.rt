@@ -11,7 +11,7 @@ use crate::item::{Item, View};
 use crate::rule::{InOrder, Law, Makes, Room, Sizes};
 use crate::waiting::{Bells, Ringer};
 use crossbeam_channel::{Pass, RuledSender, bounded_with};
-use scp_types::{CAPACITY_LIMIT, Fault, NODE_LIMIT};
+use scp_ledger::below::types::{CAPACITY_LIMIT, Fault, NODE_LIMIT};
 use std::alloc::{AllocError, Global};
 use std::marker::Brand;
 use std::sync::Arc;

@@ -1,15 +1,15 @@
 //! The sending end of a link.
 ghost use Rattle.std.specs.Prelude.{◌≡◌, ◌↔◌, ◌⊎◌, [], true, false, OnOk, OnErr, IfErr, MatchResult, IsErrOf};
-ghost use Rattle.scp_wire.specs.declared.link.LinkItem.TheVariants as item;
-ghost use Rattle.scp_wire.specs.Tails.{GoesNext};
+ghost use Rattle.scp_ledger.specs.scp_wire.specs.declared.link.LinkItem.TheVariants as item;
+ghost use Rattle.scp_ledger.specs.scp_wire.specs.Tails.{GoesNext};
 ghost use Rattle.scp_ends.specs.Ends.{IsQueued, HeardAll};
 ghost use Rattle.scp_ends.specs.Order.{values};
 ghost use Rattle.scp_ends.specs.Links.{LinkEnd, stands, conn_now, conn_next, with_item, IsLink};
 
 use crate::ends::{Done, Gone, Rx, Tx};
 use crate::rule::Any;
-use scp_types::{Fault, NodeId};
-use scp_wire::{Bytes, LinkItem, Next, Tail, a_beginning_keeps_the_shape};
+use scp_ledger::below::types::{Fault, NodeId};
+use scp_ledger::below::wire::{Bytes, LinkItem, Next, Tail, a_beginning_keeps_the_shape};
 use std::marker::Model;
 use std::sync::Wait;
 
@@ -53,11 +53,20 @@ impl Model for LinkTx {
 }
 
 /// What the sending end of a link leaves when it has ended.
-#[derive(Drop)]
 pub struct LinkDone {
     from: NodeId,
     to: NodeId,
     tail: Done<LinkItem, Any>,
+}
+
+impl Drop for LinkDone {
+    fn drop(self) {
+        let LinkDone {
+            from: _,
+            to: _,
+            tail: _,
+        } = self;
+    }
 }
 
 impl Model for LinkDone {
@@ -181,7 +190,11 @@ impl LinkDone {
         ensures queued { IsQueued rx.old self.tail }
         ensures alone { rx.old.producers ≡ 1 → HeardAll rx.old → values rx.old.got ≡ self.tail.sent }
     {
-        let LinkDone { tail, .. } = self;
+        let LinkDone {
+            from: _,
+            to: _,
+            tail,
+        } = self;
         rx.take_back(tail);
     }
 }

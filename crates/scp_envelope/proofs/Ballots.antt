@@ -6,7 +6,7 @@ use Rattle.std.specs.declared.cmp.Ordering.{Ordering}
 use Rattle.std.specs.declared.cmp.Ordering.TheVariants.{Less, Equal, Greater}
 use Rattle.std.proofs.lemmas.Bool.Decides.{nat_tests}
 use Rattle.std.proofs.lemmas.Cmp.{on_total, then_total, nat_cmp_total, nat_list_cmp_total, tied_itself}
-use Rattle.scp_types.specs.declared.ballot.Ballot.{Ballot}
+use Rattle.scp_xdr.specs.scp_types.specs.declared.ballot.Ballot.{Ballot}
 use Rattle.scp_envelope.specs.Ballots.{ballot_cmp, value_cmp, IsAtMost}
 use Rattle.scp_envelope.specs.Claims.{IsCovered}
 

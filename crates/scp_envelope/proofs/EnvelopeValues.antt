@@ -1,7 +1,7 @@
 -- An envelope and its value say the same.
 use Rattle.std.proofs.Common.{◌≡◌, Option, Some, None, inl, inr, refl, ap}
 use Rattle.std.specs.Prelude.{option_map}
-use Rattle.scp_types.specs.declared.ballot.Ballot.{Ballot}
+use Rattle.scp_xdr.specs.scp_types.specs.declared.ballot.Ballot.{Ballot}
 use Rattle.scp_xdr.specs.Kind.{Values}
 use Rattle.scp_xdr.specs.Shared.{ballot_kind, ballot_value}
 use Rattle.scp_xdr.proofs.Again.{node_value_again}

@@ -4,7 +4,7 @@ use Rattle.std.specs.Ordering.{nat_cmp, ordering_then}
 use Rattle.std.specs.declared.cmp.Ordering.{Ordering}
 use Rattle.std.specs.declared.cmp.Ordering.TheVariants.{Less, Greater}
 use Rattle.std.specs.Cmp.Lexicographic.{slice_cmp}
-use Rattle.scp_types.specs.declared.ballot.Ballot.{Ballot}
+use Rattle.scp_xdr.specs.scp_types.specs.declared.ballot.Ballot.{Ballot}
 
 -- values are compared as bytes; a proper prefix is less than the whole
 abbrev pub value_cmp : List ℕ → List ℕ → Ordering

@@ -1,7 +1,7 @@
 -- Back from the values of the kinds to statements and envelopes.
 use Rattle.std.specs.Prelude.{◌≡◌, option_map}
 use Rattle.std.proofs.Common.{inl, inr}
-use Rattle.scp_types.specs.declared.ballot.Ballot.{Ballot}
+use Rattle.scp_xdr.specs.scp_types.specs.declared.ballot.Ballot.{Ballot}
 use Rattle.scp_xdr.specs.Kind.{Values}
 use Rattle.scp_xdr.specs.Shared.{ballot_kind, node_of}
 use Rattle.scp_envelope.specs.declared.statement.Prepare.{Prepare}

@@ -3,7 +3,7 @@
 use Rattle.std.specs.Prelude.{option_map}
 use Rattle.std.proofs.Common.{inl, inr}
 use Rattle.scp_envelope.specs.declared.codec.TheConstants.{LIST_LIMIT, SIGNATURE_LIMIT}
-use Rattle.scp_types.specs.declared.names.Hash.{Hash}
+use Rattle.scp_xdr.specs.scp_types.specs.declared.names.Hash.{Hash}
 use Rattle.scp_xdr.specs.Kind.{Kind, uint32, uint64, opaque, optional, array, both, union, no_arm, arm, Values}
 use Rattle.scp_xdr.specs.Shared.{value_kind, hash_kind, node_kind, ballot_kind, ballot_value}
 use Rattle.scp_envelope.specs.declared.statement.Prepare.{Prepare}

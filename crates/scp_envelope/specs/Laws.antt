@@ -1,7 +1,7 @@
 -- What follows from the definitions.
 use Rattle.std.specs.Prelude.{◌≡◌, ◌<◌, ◌↔◌, ℕ, List, length}
 use Rattle.std.specs.List.Sorted.{IsStrictlySortedBy}
-use Rattle.scp_types.specs.declared.ballot.Ballot.{Ballot}
+use Rattle.scp_xdr.specs.scp_types.specs.declared.ballot.Ballot.{Ballot}
 use Rattle.scp_envelope.specs.declared.statement.Confirm.{Confirm}
 use Rattle.scp_envelope.specs.declared.statement.Externalize.{Externalize}
 use Rattle.scp_envelope.specs.declared.statement.Statement.{Statement}

@@ -1,7 +1,7 @@
 -- Which statements are sane (this project's profile).
 use Rattle.std.specs.Prelude.{◌≡◌, ◌≢◌, ◌<◌, ◌≤◌, ◌⊎◌, [], Option, Some, None, IsSomeAnd}
 use Rattle.std.specs.List.Sorted.{IsStrictlySortedBy}
-use Rattle.scp_types.specs.declared.ballot.Ballot.{Ballot}
+use Rattle.scp_xdr.specs.scp_types.specs.declared.ballot.Ballot.{Ballot}
 use Rattle.scp_envelope.specs.declared.statement.Prepare.{Prepare}
 use Rattle.scp_envelope.specs.declared.statement.Confirm.{Confirm}
 use Rattle.scp_envelope.specs.declared.statement.Externalize.{Externalize}

@@ -1,7 +1,7 @@
 -- Short envelopes, which surely keep the limits of their kind and fit a link (this project's profile).
 use Rattle.std.specs.Prelude.{◌≤◌, ℕ, List, length, Contains}
 use Rattle.std.specs.Option.{ForSome}
-use Rattle.scp_types.specs.declared.limits.TheConstants.{VALUE_LIMIT}
+use Rattle.scp_xdr.specs.scp_types.specs.declared.limits.TheConstants.{VALUE_LIMIT}
 use Rattle.scp_envelope.specs.declared.codec.TheConstants.{SIGNATURE_LIMIT}
 use Rattle.scp_envelope.specs.declared.statement.Pledges.{Pledges}
 use Rattle.scp_envelope.specs.declared.statement.Pledges.TheVariants.{Prepare, Confirm, Externalize, Nominate}

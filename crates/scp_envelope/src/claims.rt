@@ -4,7 +4,7 @@ ghost use Rattle.scp_envelope.specs.Claims.{IsCovered, VotesPrepare, AcceptsPrep
 
 use crate::lists::contains;
 use crate::statement::{Pledges, Statement};
-use scp_types::{Ballot, Value};
+use scp_xdr::below::types::{Ballot, Value};
 
 /// Whether the ballot is less than or equal to the other and compatible with it.
 fn is_covered(ballot: &Ballot, top: &Ballot) -> bool

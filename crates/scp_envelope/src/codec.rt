@@ -10,7 +10,7 @@ ghost use Rattle.scp_envelope.specs.Kinds.{prepare_kind, prepare_value, confirm_
 use crate::lists::ValueList;
 use crate::signature::Signature;
 use crate::statement::{Confirm, Envelope, Externalize, Nominate, Pledges, Prepare, Statement};
-use scp_types::{Ballot, Fault, Hash, NodeId, Slot, Value};
+use scp_xdr::below::types::{Ballot, Fault, Hash, NodeId, Slot, Value};
 use scp_xdr::{
     Reader, Writer, Xdr, array_fits, optional_fits, pass_array, pass_optional, read_array,
     read_optional, spend_array, spend_opaque, spend_optional, spend_u32, spend_u64, write_array,

@@ -2,7 +2,7 @@
 ghost use Rattle.std.specs.Prelude.{◌≡◌, IfOk, IsOkUnless};
 
 use crate::statement::{Confirm, Envelope, Externalize, Nominate, Pledges, Prepare, Statement};
-use scp_types::{Ballot, Fault};
+use scp_xdr::below::types::{Ballot, Fault};
 
 fn copy_optional(ballot: &Option<Ballot>) -> Result<Option<Ballot>, Fault>
     ensures same { IfOk result (λ copied. copied ≡ ballot.now) }

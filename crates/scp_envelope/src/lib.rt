@@ -14,6 +14,7 @@
 //!   what a CONFIRM of its value accepts whose nCommit is its counter.
 #![tactic(auto)]
 
+pub mod below;
 mod claims;
 mod codec;
 mod copies;

@@ -1,6 +1,6 @@
 ghost use Rattle.std.specs.Prelude.{◌≡◌, ◌↔◌, IfOk, IsOkUnless, IsTrue, Contains};
 
-use scp_types::{Fault, Value};
+use scp_xdr::below::types::{Fault, Value};
 use std::marker::Model;
 
 /// Values in order. The limit of 64 is that of the encoding (this project's profile).

@@ -5,7 +5,7 @@ ghost use Rattle.scp_envelope.specs.Newer.{prepare_cmp, confirm_cmp, IsNewerNomi
 
 use crate::lists::contains;
 use crate::statement::{Confirm, Nominate, Pledges, Prepare, Statement};
-use scp_types::Value;
+use scp_xdr::below::types::Value;
 
 /// Whether `new` is newer than `old`. False unless both are of one node and slot, and both are nominations or both ballot
 /// statements. A NOMINATE is newer if both its lists contain the old ones and one has a value more. Of ballot statements

@@ -5,7 +5,7 @@ ghost use Rattle.scp_envelope.specs.Ballots.{value_cmp};
 ghost use Rattle.scp_envelope.specs.Sane.{AreApart, IsSanePrepare, IsSaneConfirm, IsSaneExternalize, IsSaneNominate, IsSane};
 
 use crate::statement::{Confirm, Externalize, Nominate, Pledges, Prepare, Statement};
-use scp_types::{Ballot, Value};
+use scp_xdr::below::types::{Ballot, Value};
 
 impl Statement {
     /// Whether the statement is sane (this project's profile). PREPARE: the ballot's counter is above 0; if both are

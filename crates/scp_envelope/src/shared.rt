@@ -2,7 +2,7 @@
 ghost use Rattle.std.specs.Prelude.{◌≡◌, IfOk, IsOkUnless};
 
 use crate::statement::{Envelope, Statement};
-use scp_types::Fault;
+use scp_xdr::below::types::Fault;
 use std::alloc::Global;
 use std::marker::Model;
 use std::ops::Deref;

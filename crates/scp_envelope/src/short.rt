@@ -9,7 +9,7 @@ ghost use Rattle.scp_envelope.specs.Kinds.{prepare_kind, prepare_value, confirm_
 ghost use Rattle.scp_envelope.specs.Short.{IsShortValue, SaysOnly, HasShortLists, IsShort};
 
 use crate::statement::{Confirm, Envelope, Externalize, Nominate, Pledges, Prepare};
-use scp_types::{Ballot, Hash, NodeId, Slot};
+use scp_xdr::below::types::{Ballot, Hash, NodeId, Slot};
 
 fn see_hash(hash: Hash)
     ensures { length hash.0 ≡ 32 }

@@ -1,6 +1,6 @@
 ghost use Rattle.std.specs.Prelude.{◌≡◌, IfOk, IsOkUnless};
 
-use scp_types::Fault;
+use scp_xdr::below::types::Fault;
 use std::marker::Model;
 
 /// A signature: bytes that are kept and not checked. The limit of 64 is that of the encoding.

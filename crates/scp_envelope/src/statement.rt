@@ -4,7 +4,7 @@ ghost use Rattle.scp_envelope.specs.Kinds.{set_hash_of};
 
 use crate::lists::ValueList;
 use crate::signature::Signature;
-use scp_types::{Ballot, Hash, NodeId, Slot};
+use scp_xdr::below::types::{Ballot, Hash, NodeId, Slot};
 
 /// What a node says while it prepares ballots.
 #[derive(Drop)]

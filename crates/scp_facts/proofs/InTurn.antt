@@ -5,19 +5,19 @@ use Rattle.std.proofs.lemmas.Grind.{flat_map-append}
 use Rattle.std.proofs.lemmas.List.{map-append}
 use Rattle.std.proofs.lemmas.List.Elements.{filter-append}
 use Rattle.std.proofs.lemmas.Option.{same_Some}
-use Rattle.scp_driver.specs.declared.kv_driver.KvDriver.{KvDriver}
-use Rattle.scp_driver.specs.Kv.{kv_says}
-use Rattle.scp_wire.specs.declared.link.Command.{Command as Local}
-use Rattle.scp_wire.specs.declared.link.Command.TheVariants as local
-use Rattle.scp_pending.specs.declared.ready.Ready.{Ready}
-use Rattle.scp_pending.specs.declared.ready.Ready.TheVariants as ready
-use Rattle.scp_ledger.specs.declared.journal.Fate.{Fate}
-use Rattle.scp_ledger.specs.declared.journal.Verdict.{Verdict}
-use Rattle.scp_ledger.specs.declared.took.CommandFate.{CommandFate}
-use Rattle.scp_ledger.specs.declared.took.Took.{Took}
-use Rattle.scp_ledger.specs.By.{TakesBy}
-use Rattle.scp_ledger.specs.Seen.{LedgerView}
-use Rattle.scp_ledger.specs.Takes.{Passes}
+use Rattle.scp_turn.specs.scp_driver.specs.declared.kv_driver.KvDriver.{KvDriver}
+use Rattle.scp_turn.specs.scp_driver.specs.Kv.{kv_says}
+use Rattle.scp_turn.specs.scp_wire.specs.declared.link.Command.{Command as Local}
+use Rattle.scp_turn.specs.scp_wire.specs.declared.link.Command.TheVariants as local
+use Rattle.scp_turn.specs.scp_pending.specs.declared.ready.Ready.{Ready}
+use Rattle.scp_turn.specs.scp_pending.specs.declared.ready.Ready.TheVariants as ready
+use Rattle.scp_turn.specs.scp_ledger.specs.declared.journal.Fate.{Fate}
+use Rattle.scp_turn.specs.scp_ledger.specs.declared.journal.Verdict.{Verdict}
+use Rattle.scp_turn.specs.scp_ledger.specs.declared.took.CommandFate.{CommandFate}
+use Rattle.scp_turn.specs.scp_ledger.specs.declared.took.Took.{Took}
+use Rattle.scp_turn.specs.scp_ledger.specs.By.{TakesBy}
+use Rattle.scp_turn.specs.scp_ledger.specs.Seen.{LedgerView}
+use Rattle.scp_turn.specs.scp_ledger.specs.Takes.{Passes}
 use Rattle.scp_turn.specs.scp_core.specs.declared.event.Event.{Event}
 use Rattle.scp_turn.specs.scp_core.specs.declared.event.Event.TheVariants as event
 use Rattle.scp_turn.specs.scp_core.specs.declared.event.Reply.{Reply}

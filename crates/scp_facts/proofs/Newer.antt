@@ -7,14 +7,14 @@ use Rattle.std.specs.declared.cmp.Ordering.TheVariants.{Less, Equal, Greater}
 use Rattle.std.specs.Cmp.Lexicographic.{pointwise, bytes_decides}
 use Rattle.std.proofs.lemmas.Bool.Decides.{Decides-and, Decides-or, Decides-not, Decides-like, Decides-eqb, Decides-by_and, Decides-by_or, same_from_decides}
 use Rattle.std.proofs.lemmas.List.Elements.{Decides-contains}
-use Rattle.scp_types.specs.declared.names.NodeId.{NodeId}
-use Rattle.scp_types.specs.declared.names.Slot.{Slot}
-use Rattle.scp_types.specs.Same.{same_node}
-use Rattle.scp_envelope.specs.declared.statement.Nominate.{Nominate}
-use Rattle.scp_envelope.specs.declared.statement.Pledges.{Pledges}
-use Rattle.scp_envelope.specs.declared.statement.Pledges.TheVariants.{Prepare as Preparing, Confirm as Confirming, Externalize as Externalizing, Nominate as Nominating}
-use Rattle.scp_envelope.specs.declared.statement.Statement.{Statement}
-use Rattle.scp_envelope.specs.Newer.{prepare_cmp, confirm_cmp, ContainsAll, IsNewerNominate, ArePledgesNewer, IsNewer}
+use Rattle.scp_turn.specs.scp_types.specs.declared.names.NodeId.{NodeId}
+use Rattle.scp_turn.specs.scp_types.specs.declared.names.Slot.{Slot}
+use Rattle.scp_turn.specs.scp_types.specs.Same.{same_node}
+use Rattle.scp_turn.specs.scp_envelope.specs.declared.statement.Nominate.{Nominate}
+use Rattle.scp_turn.specs.scp_envelope.specs.declared.statement.Pledges.{Pledges}
+use Rattle.scp_turn.specs.scp_envelope.specs.declared.statement.Pledges.TheVariants.{Prepare as Preparing, Confirm as Confirming, Externalize as Externalizing, Nominate as Nominating}
+use Rattle.scp_turn.specs.scp_envelope.specs.declared.statement.Statement.{Statement}
+use Rattle.scp_turn.specs.scp_envelope.specs.Newer.{prepare_cmp, confirm_cmp, ContainsAll, IsNewerNominate, ArePledgesNewer, IsNewer}
 use Rattle.scp_facts.specs.Standing.{has_value, has_all, is_newer_nominate, are_pledges_newer, is_newer, NewerIsTold}
 
 -- ---- values

@@ -1,46 +1,46 @@
 -- What the steps of a node tell, seen from outside (this project's profile).
 use Rattle.std.specs.Prelude.{ℕ, ◌+◌, ◌-◌, zero, suc, Bool, true, false, List, [], ◌∷◌, ◌++◌, Option, Some, None, length, map, filter, is_some, slice_get, if◌then◌else◌}
-use Rattle.scp_types.specs.declared.names.ConnId.{ConnId}
-use Rattle.scp_types.specs.declared.names.NodeId.{NodeId}
-use Rattle.scp_types.specs.declared.names.Slot.{Slot}
-use Rattle.scp_envelope.specs.declared.statement.Envelope.{Envelope}
-use Rattle.scp_wire.specs.Connections.{conn_at}
-use Rattle.scp_wire.specs.declared.carried.Carried.{Carried}
-use Rattle.scp_wire.specs.declared.message.Message.{Message}
-use Rattle.scp_wire.specs.declared.message.Message.TheVariants as message
-use Rattle.scp_wire.specs.declared.side.SideMessage.{SideMessage}
-use Rattle.scp_wire.specs.declared.side.SideMessage.TheVariants as side
-use Rattle.scp_wire.specs.declared.link.LinkItem.{LinkItem}
-use Rattle.scp_wire.specs.declared.link.LinkItem.TheVariants as item
-use Rattle.scp_wire.specs.declared.link.Inbound.{Inbound}
-use Rattle.scp_wire.specs.declared.link.Inbound.TheVariants as inbound
-use Rattle.scp_wire.specs.declared.link.Command.{Command}
-use Rattle.scp_vote.specs.Board.{kind_of_pledges}
-use Rattle.scp_vote.specs.Seen.{envelope_at}
-use Rattle.scp_vote.specs.declared.claim.StatementKind.{StatementKind}
-use Rattle.scp_vote.specs.declared.claim.StatementKind.TheVariants.{Nomination, Balloting}
-use Rattle.scp_nominate.specs.Nomination.{board_of}
-use Rattle.scp_driver.specs.declared.kv_driver.KvDriver.{KvDriver}
-use Rattle.scp_slot.specs.declared.machine.SlotMachine.{SlotMachine}
-use Rattle.scp_slot.specs.Slot.{nominator_of, balloter_of}
-use Rattle.scp_fetch.specs.declared.want.Want.{Want}
-use Rattle.scp_fetch.specs.Wants.{is_for}
-use Rattle.scp_pending.specs.declared.ready.Ready.{Ready}
-use Rattle.scp_pending.specs.declared.ready.Ready.TheVariants as ready
-use Rattle.scp_pending.specs.declared.becoming.Becoming.{Becoming}
-use Rattle.scp_pending.specs.declared.becoming.Becoming.TheVariants as becoming
-use Rattle.scp_pending.specs.Becoming.{becoming as becoming_of}
-use Rattle.scp_pending.specs.Rules.{Settled}
-use Rattle.scp_ledger.specs.declared.took.CommandFate.{CommandFate}
-use Rattle.scp_ledger.specs.declared.took.Onward.{Onward}
-use Rattle.scp_ledger.specs.declared.took.Onward.TheVariants as onward
-use Rattle.scp_ledger.specs.declared.journal.Decision.{Decision}
-use Rattle.scp_ledger.specs.declared.journal.Fate.{Fate}
-use Rattle.scp_ledger.specs.declared.journal.Fate.TheVariants as fate
-use Rattle.scp_ledger.specs.declared.journal.Verdict.{Verdict}
-use Rattle.scp_ledger.specs.declared.journal.Verdict.TheVariants.{Stale}
-use Rattle.scp_ledger.specs.Seen.{machine_at}
-use Rattle.scp_apply.specs.Applied.{value_of}
+use Rattle.scp_turn.specs.scp_types.specs.declared.names.ConnId.{ConnId}
+use Rattle.scp_turn.specs.scp_types.specs.declared.names.NodeId.{NodeId}
+use Rattle.scp_turn.specs.scp_types.specs.declared.names.Slot.{Slot}
+use Rattle.scp_turn.specs.scp_envelope.specs.declared.statement.Envelope.{Envelope}
+use Rattle.scp_turn.specs.scp_wire.specs.Connections.{conn_at}
+use Rattle.scp_turn.specs.scp_wire.specs.declared.carried.Carried.{Carried}
+use Rattle.scp_turn.specs.scp_wire.specs.declared.message.Message.{Message}
+use Rattle.scp_turn.specs.scp_wire.specs.declared.message.Message.TheVariants as message
+use Rattle.scp_turn.specs.scp_wire.specs.declared.side.SideMessage.{SideMessage}
+use Rattle.scp_turn.specs.scp_wire.specs.declared.side.SideMessage.TheVariants as side
+use Rattle.scp_turn.specs.scp_wire.specs.declared.link.LinkItem.{LinkItem}
+use Rattle.scp_turn.specs.scp_wire.specs.declared.link.LinkItem.TheVariants as item
+use Rattle.scp_turn.specs.scp_wire.specs.declared.link.Inbound.{Inbound}
+use Rattle.scp_turn.specs.scp_wire.specs.declared.link.Inbound.TheVariants as inbound
+use Rattle.scp_turn.specs.scp_wire.specs.declared.link.Command.{Command}
+use Rattle.scp_turn.specs.scp_vote.specs.Board.{kind_of_pledges}
+use Rattle.scp_turn.specs.scp_vote.specs.Seen.{envelope_at}
+use Rattle.scp_turn.specs.scp_vote.specs.declared.claim.StatementKind.{StatementKind}
+use Rattle.scp_turn.specs.scp_vote.specs.declared.claim.StatementKind.TheVariants.{Nomination, Balloting}
+use Rattle.scp_turn.specs.scp_nominate.specs.Nomination.{board_of}
+use Rattle.scp_turn.specs.scp_driver.specs.declared.kv_driver.KvDriver.{KvDriver}
+use Rattle.scp_turn.specs.scp_slot.specs.declared.machine.SlotMachine.{SlotMachine}
+use Rattle.scp_turn.specs.scp_slot.specs.Slot.{nominator_of, balloter_of}
+use Rattle.scp_turn.specs.scp_fetch.specs.declared.want.Want.{Want}
+use Rattle.scp_turn.specs.scp_fetch.specs.Wants.{is_for}
+use Rattle.scp_turn.specs.scp_pending.specs.declared.ready.Ready.{Ready}
+use Rattle.scp_turn.specs.scp_pending.specs.declared.ready.Ready.TheVariants as ready
+use Rattle.scp_turn.specs.scp_pending.specs.declared.becoming.Becoming.{Becoming}
+use Rattle.scp_turn.specs.scp_pending.specs.declared.becoming.Becoming.TheVariants as becoming
+use Rattle.scp_turn.specs.scp_pending.specs.Becoming.{becoming as becoming_of}
+use Rattle.scp_turn.specs.scp_pending.specs.Rules.{Settled}
+use Rattle.scp_turn.specs.scp_ledger.specs.declared.took.CommandFate.{CommandFate}
+use Rattle.scp_turn.specs.scp_ledger.specs.declared.took.Onward.{Onward}
+use Rattle.scp_turn.specs.scp_ledger.specs.declared.took.Onward.TheVariants as onward
+use Rattle.scp_turn.specs.scp_ledger.specs.declared.journal.Decision.{Decision}
+use Rattle.scp_turn.specs.scp_ledger.specs.declared.journal.Fate.{Fate}
+use Rattle.scp_turn.specs.scp_ledger.specs.declared.journal.Fate.TheVariants as fate
+use Rattle.scp_turn.specs.scp_ledger.specs.declared.journal.Verdict.{Verdict}
+use Rattle.scp_turn.specs.scp_ledger.specs.declared.journal.Verdict.TheVariants.{Stale}
+use Rattle.scp_turn.specs.scp_ledger.specs.Seen.{machine_at}
+use Rattle.scp_turn.specs.scp_apply.specs.Applied.{value_of}
 use Rattle.scp_turn.specs.scp_core.specs.declared.event.Event.{Event}
 use Rattle.scp_turn.specs.scp_core.specs.declared.event.Event.TheVariants as event
 use Rattle.scp_turn.specs.scp_core.specs.declared.event.Reply.{Reply}

@@ -1,7 +1,7 @@
 -- What is kept of the steps of nodes, as seen from outside (this project's profile).
 use Rattle.std.specs.Prelude.{ℕ, ◌≡◌, List, [], ◌∷◌, ◌++◌, Option, Some, None, length, nat_lt, slice_get, if◌then◌else◌}
-use Rattle.scp_wire.specs.declared.link.Command.{Command as Local}
-use Rattle.scp_ledger.specs.declared.took.CommandFate.{CommandFate}
+use Rattle.scp_turn.specs.scp_wire.specs.declared.link.Command.{Command as Local}
+use Rattle.scp_turn.specs.scp_ledger.specs.declared.took.CommandFate.{CommandFate}
 use Rattle.scp_turn.specs.scp_core.specs.declared.event.Event.{Event}
 use Rattle.scp_turn.specs.scp_core.specs.declared.event.Event.TheVariants as event
 use Rattle.scp_turn.specs.scp_core.specs.declared.event.Reply.{Reply}

@@ -1,3 +1,5 @@
+pub use Rattle.scp_turn.specs.scp_core
+pub use Rattle.scp_turn
 pub mod Standing
 pub mod Facts
 pub mod Telling

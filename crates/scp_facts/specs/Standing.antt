@@ -4,17 +4,17 @@ use Rattle.std.specs.Bool.{Decides}
 use Rattle.std.specs.List.{list_any, list_all}
 use Rattle.std.specs.Ordering.{is_lt}
 use Rattle.std.specs.Cmp.Lexicographic.{pointwise}
-use Rattle.scp_types.specs.declared.ballot.Ballot.{Ballot}
-use Rattle.scp_types.specs.Same.{same_hash, same_node}
-use Rattle.scp_envelope.specs.declared.statement.Prepare.{Prepare}
-use Rattle.scp_envelope.specs.declared.statement.Confirm.{Confirm}
-use Rattle.scp_envelope.specs.declared.statement.Externalize.{Externalize}
-use Rattle.scp_envelope.specs.declared.statement.Nominate.{Nominate}
-use Rattle.scp_envelope.specs.declared.statement.Pledges.{Pledges}
-use Rattle.scp_envelope.specs.declared.statement.Pledges.TheVariants.{Prepare as Preparing, Confirm as Confirming, Externalize as Externalizing, Nominate as Nominating}
-use Rattle.scp_envelope.specs.declared.statement.Statement.{Statement}
-use Rattle.scp_envelope.specs.declared.statement.Envelope.{Envelope}
-use Rattle.scp_envelope.specs.Newer.{prepare_cmp, confirm_cmp, IsNewer}
+use Rattle.scp_turn.specs.scp_types.specs.declared.ballot.Ballot.{Ballot}
+use Rattle.scp_turn.specs.scp_types.specs.Same.{same_hash, same_node}
+use Rattle.scp_turn.specs.scp_envelope.specs.declared.statement.Prepare.{Prepare}
+use Rattle.scp_turn.specs.scp_envelope.specs.declared.statement.Confirm.{Confirm}
+use Rattle.scp_turn.specs.scp_envelope.specs.declared.statement.Externalize.{Externalize}
+use Rattle.scp_turn.specs.scp_envelope.specs.declared.statement.Nominate.{Nominate}
+use Rattle.scp_turn.specs.scp_envelope.specs.declared.statement.Pledges.{Pledges}
+use Rattle.scp_turn.specs.scp_envelope.specs.declared.statement.Pledges.TheVariants.{Prepare as Preparing, Confirm as Confirming, Externalize as Externalizing, Nominate as Nominating}
+use Rattle.scp_turn.specs.scp_envelope.specs.declared.statement.Statement.{Statement}
+use Rattle.scp_turn.specs.scp_envelope.specs.declared.statement.Envelope.{Envelope}
+use Rattle.scp_turn.specs.scp_envelope.specs.Newer.{prepare_cmp, confirm_cmp, IsNewer}
 
 -- ---- the same statement
 

@@ -1,9 +1,9 @@
 -- What a slot stage took, from what happened at its node (this project's profile).
 use Rattle.std.specs.Prelude.{ℕ, Bool, true, false, List, [], ◌∷◌, filter, flat_map, length, map, nat_eq}
-use Rattle.scp_wire.specs.declared.link.Command.{Command}
-use Rattle.scp_wire.specs.declared.link.Command.TheVariants.{Tick}
-use Rattle.scp_ledger.specs.declared.journal.Fate.{Fate}
-use Rattle.scp_ledger.specs.declared.took.CommandFate.{CommandFate}
+use Rattle.scp_turn.specs.scp_wire.specs.declared.link.Command.{Command}
+use Rattle.scp_turn.specs.scp_wire.specs.declared.link.Command.TheVariants.{Tick}
+use Rattle.scp_turn.specs.scp_ledger.specs.declared.journal.Fate.{Fate}
+use Rattle.scp_turn.specs.scp_ledger.specs.declared.took.CommandFate.{CommandFate}
 use Rattle.scp_turn.specs.Commands.{TakenCommand}
 use Rattle.scp_facts.specs.declared.happening.Happening.{Happening}
 use Rattle.scp_facts.specs.declared.happening.Happening.TheVariants.{Given, Entered, Obeyed}

@@ -3,12 +3,12 @@ ghost use Rattle.std.specs.Prelude.{◌≡◌, ◌∷◌, ◌++◌, [], IfOk, On
 ghost use Rattle.scp_facts.specs.Facts.{conn_on as conn_by, conn_of_bytes as conn_by_bytes, missed, all_missed, missed_by, beginning_tells as beginning_told, carried_tells as carried_told, side_tells as side_told, command_tells as command_told, item_tells as item_told, first_tells as first_told, pending_tells as pending_told, command_in as command_by, asked_in as asked_by};
 
 use crate::fact::{Fact, FactList};
-use scp_fetch::Want;
-use scp_ledger::Onward;
-use scp_pending::{Becoming, Pending, Ready};
+use scp_turn::below::fetch::Want;
+use scp_turn::below::ledger::Onward;
+use scp_turn::below::pending::{Becoming, Pending, Ready};
+use scp_turn::below::types::{ConnId, Fault, Hash, Slot};
+use scp_turn::below::wire::{Carried, Inbound, LinkItem, SideMessage};
 use scp_turn::{Command, Node};
-use scp_types::{ConnId, Fault, Hash, Slot};
-use scp_wire::{Carried, Inbound, LinkItem, SideMessage};
 use std::alloc::Global;
 
 /// Nothing is told.

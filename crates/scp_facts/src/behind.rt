@@ -4,9 +4,9 @@ ghost use Rattle.scp_facts.specs.Facts.{offered as offered_by, drained as draine
 
 use crate::fact::{Fact, FactList};
 use crate::standing::way_of_entry;
-use scp_envelope::SharedEnvelope;
+use scp_turn::below::envelope::SharedEnvelope;
+use scp_turn::below::types::{ConnId, Fault, Slot};
 use scp_turn::{Command, CommandFate, Node, Reply};
-use scp_types::{ConnId, Fault, Slot};
 use std::alloc::Global;
 
 /// What an offer tells: these, where it was accepted, or that there was no room.

@@ -1,10 +1,10 @@
 //! What the steps of a node tell.
 
-use scp_envelope::SharedEnvelope;
-use scp_pending::{Becoming, Why};
 use scp_turn::CommandFate;
-use scp_types::{ConnId, Hash, Seq, Slot};
-use scp_wire::{Bytes, Command, Message, SideMessage};
+use scp_turn::below::envelope::SharedEnvelope;
+use scp_turn::below::pending::{Becoming, Why};
+use scp_turn::below::types::{ConnId, Hash, Seq, Slot};
+use scp_turn::below::wire::{Bytes, Command, Message, SideMessage};
 use std::marker::Model;
 
 /// One thing that a step of a node tells. Links are numbered as the peers they come from. The facts of one step stand in the order of these.
@@ -85,8 +85,8 @@ pub struct FactList(Vec<Fact>);
 impl Model for FactList {
     ghost use Rattle.std.specs.Prelude.{List};
     ghost use Rattle.std.specs.Coded.{codes};
-    ghost use Rattle.scp_xdr.specs.inside.TreeModel.{coded_row};
-    ghost use Rattle.scp_quorum.specs.inside.QuorumTree.{coded_level};
+    ghost use Rattle.scp_turn.specs.scp_xdr.specs.inside.TreeModel.{coded_row};
+    ghost use Rattle.scp_turn.specs.scp_quorum.specs.inside.QuorumTree.{coded_level};
     ghost use Rattle.scp_facts.specs.declared.fact.Fact.{Fact};
 
     ghost Value = { List Fact };

@@ -1,7 +1,7 @@
 //! What happens at a node, as seen from outside: what is kept for its account.
 
 use scp_turn::CommandFate;
-use scp_wire::{Bytes, Command};
+use scp_turn::below::wire::{Bytes, Command};
 
 /// What came to a node, went from it, or was taken by its slot stage, in one step. A link has the number of the peer it comes from.
 #[derive(Drop)]

@@ -10,8 +10,8 @@ ghost use Rattle.scp_facts.specs.inside.Keeping.{Adds};
 
 use crate::before::command_in;
 use crate::happening::{Happening, Kept};
+use scp_turn::below::types::Fault;
 use scp_turn::{Command, Event, KvDriver, Node, Reply, Watch};
-use scp_types::Fault;
 use std::alloc::Global;
 use std::marker::Model;
 

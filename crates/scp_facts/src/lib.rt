@@ -12,6 +12,7 @@
 
 mod before;
 mod behind;
+pub mod below;
 mod fact;
 mod happening;
 mod keeping;
@@ -27,5 +28,6 @@ pub use laws::{
     a_step_is_told_as_it_happened, each_fate_kept_is_of_its_command, the_test_of_newer_tells,
     what_is_kept_is_what_happened, what_is_told_is_what_happened,
 };
+pub use standing::same_statement;
 pub use taken::{happenings_at, ticks_of};
 pub use watch::{Awaited, FactWatch};

@@ -3,15 +3,15 @@ ghost use Rattle.std.specs.Prelude.{◌≡◌, IfOk, option_copied};
 ghost use Rattle.scp_facts.specs.Standing.{same_ballot as ballots_alike, same_ballots as both_alike, same_values as values_alike, same_prepare as prepares_alike, same_confirm as confirms_alike, same_externalize as externalizes_alike, same_nominate as nominates_alike, same_pledges as pledges_alike, same_statement as statements_alike, is_newer as newer_by, in_the_way as way_by};
 ghost use Rattle.scp_facts.specs.Facts.{stands_at as stands_by, standing as standing_in, way_of as way_by_message, way_of_entry as way_by_entry};
 
-use scp_driver::KvDriver;
-use scp_envelope::{
+use scp_turn::below::driver::KvDriver;
+use scp_turn::below::envelope::{
     Confirm, Envelope, Externalize, Nominate, Pledges, Prepare, SharedEnvelope, Statement, newer,
 };
-use scp_slot::SlotMachine;
+use scp_turn::below::slot::SlotMachine;
+use scp_turn::below::types::{Ballot, Fault, NodeId, Value};
+use scp_turn::below::vote::{StatementKind, kind_of_pledges};
+use scp_turn::below::wire::Message;
 use scp_turn::{Fate, Node, Verdict};
-use scp_types::{Ballot, Fault, NodeId, Value};
-use scp_vote::{StatementKind, kind_of_pledges};
-use scp_wire::Message;
 
 fn same_ballot(one: &Ballot, other: &Ballot) -> bool
     ensures { result ≡ ballots_alike one.now other.now }
@@ -85,7 +85,7 @@ fn same_pledges(one: &Pledges, other: &Pledges) -> bool
 }
 
 /// Whether one node says the same of one slot in both.
-fn same_statement(one: &Statement, other: &Statement) -> bool
+pub fn same_statement(one: &Statement, other: &Statement) -> bool
     ensures { result ≡ statements_alike one.now other.now }
 {
     one.node == other.node && one.slot == other.slot && same_pledges(&one.pledges, &other.pledges)

@@ -3,7 +3,7 @@ ghost use Rattle.std.specs.Prelude.{◌≡◌, map, IfOk};
 ghost use Rattle.scp_facts.specs.Taken.{happenings_at as happened_at, ticks};
 
 use crate::happening::{Happening, Kept};
-use scp_wire::Command;
+use scp_turn::below::wire::Command;
 use std::alloc::{AllocError, Global};
 
 /// What happened at the node of this number, in order. It takes time in proportion to all that was kept. It fails only if it is out of

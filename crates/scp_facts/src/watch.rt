@@ -7,8 +7,8 @@ ghost use Rattle.scp_facts.specs.inside.Adding.{Adds};
 use crate::before::{asked_in, command_in, conn_of_bytes, conn_on, none, one, pending_tells};
 use crate::behind::{applier_tells, discarded, drained, offered, slot_tells};
 use crate::fact::{Fact, FactList, Telling, Told};
+use scp_turn::below::types::{ConnId, Fault, Slot};
 use scp_turn::{Command, Event, KvDriver, Node, Reply, Watch};
-use scp_types::{ConnId, Fault, Slot};
 use std::alloc::Global;
 use std::marker::Model;
 
@@ -43,8 +43,8 @@ pub struct FactWatch {
 
 impl Model for FactWatch {
     ghost use Rattle.std.specs.Coded.{codes};
-    ghost use Rattle.scp_xdr.specs.inside.TreeModel.{coded_row};
-    ghost use Rattle.scp_quorum.specs.inside.QuorumTree.{coded_level};
+    ghost use Rattle.scp_turn.specs.scp_xdr.specs.inside.TreeModel.{coded_row};
+    ghost use Rattle.scp_turn.specs.scp_quorum.specs.inside.QuorumTree.{coded_level};
     ghost use Rattle.scp_facts.specs.Watching.{WatchView};
 
     ghost Value = { WatchView };

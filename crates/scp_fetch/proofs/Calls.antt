@@ -7,9 +7,9 @@ use Rattle.std.proofs.lemmas.Bool.{eqb-true, eqb-false}
 use Rattle.std.proofs.lemmas.Cmp.{nat_list_eq_equiv}
 use Rattle.std.proofs.lemmas.Grind.{get_or-set_at}
 use Rattle.std.proofs.lemmas.List.{get_or-set_other, length-set, length-replicate}
-use Rattle.scp_types.specs.declared.names.ConnId.{ConnId}
-use Rattle.scp_types.specs.declared.names.Hash.{Hash}
-use Rattle.scp_types.specs.declared.limits.TheConstants.{LINK_LIMIT}
+use Rattle.scp_quorum.specs.scp_types.specs.declared.names.ConnId.{ConnId}
+use Rattle.scp_quorum.specs.scp_types.specs.declared.names.Hash.{Hash}
+use Rattle.scp_quorum.specs.scp_types.specs.declared.limits.TheConstants.{LINK_LIMIT}
 use Rattle.scp_fetch.specs.declared.want.Want.{Want}
 use Rattle.scp_fetch.specs.declared.want.Miss.{Miss}
 use Rattle.scp_fetch.specs.Hashes.{same_hash}

@@ -6,7 +6,7 @@ use Rattle.std.specs.Map.{lookup, keys_of}
 use Rattle.std.specs.Cmp.Lexicographic.{pointwise, bytes_decides}
 use Rattle.std.proofs.lemmas.List.{append-nil}
 use Rattle.std.proofs.lemmas.Bool.{eqb-false}
-use Rattle.scp_types.specs.declared.names.Hash.{Hash}
+use Rattle.scp_quorum.specs.scp_types.specs.declared.names.Hash.{Hash}
 use Rattle.scp_quorum.specs.SharedSet.{SharedSet}
 use Rattle.scp_quorum.specs.QuorumKind.{set_hash}
 use Rattle.scp_quorum.specs.QuorumTree.{QuorumTree}

@@ -4,7 +4,7 @@ use Rattle.std.specs.Prelude.{Option, Some, None, find, option_map, option_copie
 use Rattle.std.specs.List.{AllByRecursion, IsDistinct}
 use Rattle.std.specs.Map.{lookup as lookup_key, keys_of}
 use Rattle.std.specs.Cmp.Lexicographic.{pointwise, bytes_decides}
-use Rattle.scp_types.specs.declared.names.Hash.{Hash}
+use Rattle.scp_quorum.specs.scp_types.specs.declared.names.Hash.{Hash}
 use Rattle.scp_quorum.specs.SharedSet.{SharedSet}
 use Rattle.scp_quorum.specs.QuorumKind.{set_hash}
 use Rattle.scp_quorum.specs.QuorumTree.{QuorumTree}

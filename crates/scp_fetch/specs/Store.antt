@@ -1,6 +1,6 @@
 -- The quorum sets that are there: the local one, and others in the order in which they were stored (this project's profile).
 use Rattle.std.specs.Prelude.{◌++◌, [], ◌∷◌, List, Bool, Option, Some, nat_lt, length, drop, if◌then◌else◌, is_some, find}
-use Rattle.scp_types.specs.declared.names.Hash.{Hash}
+use Rattle.scp_quorum.specs.scp_types.specs.declared.names.Hash.{Hash}
 use Rattle.scp_quorum.specs.QuorumTree.{QuorumTree}
 use Rattle.scp_quorum.specs.QuorumKind.{set_hash}
 use Rattle.scp_fetch.specs.Hashes.{same_hash}

@@ -2,9 +2,9 @@
 -- were asked, and the connections that wait for it, in the order of their first wait (this project's profile).
 use Rattle.std.specs.Prelude.{ℕ, ◌+◌, ◌++◌, [], ◌∷◌, List, Bool, true, false, not, ◌&&◌, nat_lt, slice_set, filter, map, if◌then◌else◌, replicate, slice_index_or}
 use Rattle.std.specs.List.{list_any}
-use Rattle.scp_types.specs.declared.names.ConnId.{ConnId}
-use Rattle.scp_types.specs.declared.names.Hash.{Hash}
-use Rattle.scp_types.specs.declared.limits.TheConstants.{LINK_LIMIT}
+use Rattle.scp_quorum.specs.scp_types.specs.declared.names.ConnId.{ConnId}
+use Rattle.scp_quorum.specs.scp_types.specs.declared.names.Hash.{Hash}
+use Rattle.scp_quorum.specs.scp_types.specs.declared.limits.TheConstants.{LINK_LIMIT}
 use Rattle.scp_fetch.specs.Hashes.{same_hash, same_conn}
 use Rattle.scp_fetch.specs.declared.want.Want.{Want}
 use Rattle.scp_fetch.specs.declared.want.Miss.{Miss}

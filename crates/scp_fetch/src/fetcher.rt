@@ -8,7 +8,7 @@ use crate::want::{
     has_want, last_hashes, note_asked, note_missed, note_unasked, part_all, waiters,
 };
 use indexmap::IndexMap;
-use scp_types::{ConnId, Fault, Hash, LINK_LIMIT};
+use scp_quorum::below::types::{ConnId, Fault, Hash, LINK_LIMIT};
 use std::alloc::{AllocError, Global};
 use std::marker::Model;
 

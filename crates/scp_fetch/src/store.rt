@@ -9,7 +9,7 @@ ghost use Rattle.scp_fetch.specs.inside.Ring.{IsRing, IsUnderItsHash, set_at, tu
 
 use indexmap::IndexMap;
 use scp_quorum::SaneSet;
-use scp_types::{Fault, Hash};
+use scp_quorum::below::types::{Fault, Hash};
 use std::alloc::Global;
 use std::marker::Model;
 use std::sync::Arc;
@@ -30,7 +30,7 @@ impl Model for SetStore {
     ghost use Rattle.std.specs.Prelude.{map, nat_eq};
     ghost use Rattle.std.specs.List.{AllByRecursion};
     ghost use Rattle.std.specs.Coded.{codes};
-    ghost use Rattle.scp_xdr.specs.inside.TreeModel.{coded_tree};
+    ghost use Rattle.scp_quorum.specs.scp_xdr.specs.inside.TreeModel.{coded_tree};
     ghost use Rattle.scp_quorum.specs.inside.QuorumTree.{coded_level};
     ghost use Rattle.scp_fetch.specs.Store.{StoreView};
     ghost use Rattle.scp_fetch.specs.inside.Ring.{turned, set_at, IsUnderItsHash, IsRing};

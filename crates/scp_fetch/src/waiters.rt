@@ -4,7 +4,7 @@ ghost use Rattle.std.specs.List.{list_any};
 ghost use Rattle.scp_fetch.specs.Hashes.{same_conn};
 ghost use Rattle.scp_fetch.specs.Wants.{has_conn, joined};
 
-use scp_types::{ConnId, Fault};
+use scp_quorum::below::types::{ConnId, Fault};
 use std::alloc::Global;
 use std::marker::Model;
 
@@ -14,7 +14,7 @@ pub struct Waiters(Vec<ConnId>);
 
 impl Model for Waiters {
     ghost use Rattle.std.specs.Prelude.{List};
-    ghost use Rattle.scp_types.specs.declared.names.ConnId.{ConnId};
+    ghost use Rattle.scp_quorum.specs.scp_types.specs.declared.names.ConnId.{ConnId};
 
     ghost Value = { List ConnId };
 

@@ -1,6 +1,6 @@
 //! A wanted hash, and the table of the wanted hashes.
 ghost use Rattle.std.specs.Prelude.{◌≡◌, ◌<◌, ◌++◌, ◌∷◌, [], ℕ, Bool, true, false, map, filter, not, nat_lt, slice_index_or, slice_set, IfOk, OnOk, OnErr, IsOkUnless, IfSome, IfNone, is_some};
-ghost use Rattle.scp_types.specs.declared.names.ConnId.{ConnId};
+ghost use Rattle.scp_quorum.specs.scp_types.specs.declared.names.ConnId.{ConnId};
 ghost use Rattle.std.specs.List.{AllByRecursion};
 ghost use Rattle.scp_fetch.specs.Wants.{joined, is_wanted, is_asked, unasked, without, waiting_for, waits_besides, leave, left_by, gives_up, ask, unask, new_want, missed_by, count_miss, is_last, is_missed, last_missed};
 ghost use Rattle.scp_fetch.specs.inside.Table.{wants_in, IsUnderHash};
@@ -8,7 +8,7 @@ ghost use Rattle.scp_fetch.specs.inside.Table.{wants_in, IsUnderHash};
 use crate::fetcher::MISS_LIMIT;
 use crate::waiters::Waiters;
 use indexmap::IndexMap;
-use scp_types::{ConnId, Fault, Hash, LINK_LIMIT};
+use scp_quorum::below::types::{ConnId, Fault, Hash, LINK_LIMIT};
 use std::alloc::{AllocError, Global};
 
 /// A wanted hash: its misses since it became so; for each link, whether it was asked since both the hash became wanted and

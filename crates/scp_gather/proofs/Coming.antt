@@ -5,14 +5,14 @@ use Rattle.std.specs.Cmp.Lexicographic.{same_text}
 use Rattle.std.specs.List.{AllByRecursion}
 use Rattle.std.proofs.lemmas.Bool.{eqb-true, eqb-false}
 use Rattle.std.proofs.lemmas.Cmp.{nat_list_eq_equiv}
-use Rattle.scp_types.specs.declared.names.ConnId.{ConnId}
-use Rattle.scp_types.specs.declared.names.NodeId.{NodeId}
-use Rattle.scp_wire.specs.declared.link.Inbound.{Inbound}
-use Rattle.scp_wire.specs.declared.link.Inbound.TheVariants as inbound
-use Rattle.scp_wire.specs.Connections.{conn_at, same_node}
-use Rattle.scp_wire.specs.Shape.{Come, comes, MayCome, AreInOrder, is_from}
-use Rattle.scp_theorem.specs.Fates.{is_among, IsOfLink}
-use Rattle.scp_ends.specs.Commands.{IsCommand}
+use Rattle.scp_workers.specs.scp_types.specs.declared.names.ConnId.{ConnId}
+use Rattle.scp_workers.specs.scp_types.specs.declared.names.NodeId.{NodeId}
+use Rattle.scp_workers.specs.scp_wire.specs.declared.link.Inbound.{Inbound}
+use Rattle.scp_workers.specs.scp_wire.specs.declared.link.Inbound.TheVariants as inbound
+use Rattle.scp_workers.specs.scp_wire.specs.Connections.{conn_at, same_node}
+use Rattle.scp_workers.specs.scp_wire.specs.Shape.{Come, comes, MayCome, AreInOrder, is_from}
+use Rattle.scp_workers.specs.scp_theorem.specs.Fates.{is_among, IsOfLink}
+use Rattle.scp_workers.specs.scp_ends.specs.Commands.{IsCommand}
 use Rattle.scp_gather.specs.Gathered.{is_command}
 
 -- ---- of a link, or a command

@@ -1,18 +1,18 @@
 -- What became of a node's own commands.
 use Rattle.std.proofs.Common.{◌≡◌, List, [], ◌∷◌, ◌++◌, filter, refl, sym, ◌∙◌, ap, subst, append-nil}
 use Rattle.std.specs.Prelude.{Option}
-use Rattle.scp_driver.specs.Driver.{Says}
-use Rattle.scp_types.specs.declared.names.NodeId.{NodeId}
-use Rattle.scp_quorum.specs.QuorumTree.{QuorumTree}
-use Rattle.scp_wire.specs.declared.link.Command.{Command}
-use Rattle.scp_wire.specs.declared.link.Inbound.{Inbound}
-use Rattle.scp_wire.specs.declared.link.Inbound.TheVariants as inbound
-use Rattle.scp_pending.specs.declared.ready.Ready.{Ready}
-use Rattle.scp_pending.specs.Endings.{passing_command, commands_in, commands_of}
-use Rattle.scp_pending.specs.Laws.{CommandsPass}
-use Rattle.scp_ledger.specs.declared.took.Onward.{Onward}
-use Rattle.scp_ends.specs.Ends.{Sender}
-use Rattle.scp_ends.specs.Order.{values}
+use Rattle.scp_workers.specs.scp_driver.specs.Driver.{Says}
+use Rattle.scp_workers.specs.scp_types.specs.declared.names.NodeId.{NodeId}
+use Rattle.scp_workers.specs.scp_quorum.specs.QuorumTree.{QuorumTree}
+use Rattle.scp_workers.specs.scp_wire.specs.declared.link.Command.{Command}
+use Rattle.scp_workers.specs.scp_wire.specs.declared.link.Inbound.{Inbound}
+use Rattle.scp_workers.specs.scp_wire.specs.declared.link.Inbound.TheVariants as inbound
+use Rattle.scp_workers.specs.scp_pending.specs.declared.ready.Ready.{Ready}
+use Rattle.scp_workers.specs.scp_pending.specs.Endings.{passing_command, commands_in, commands_of}
+use Rattle.scp_workers.specs.scp_pending.specs.Laws.{CommandsPass}
+use Rattle.scp_workers.specs.scp_ledger.specs.declared.took.Onward.{Onward}
+use Rattle.scp_workers.specs.scp_ends.specs.Ends.{Sender}
+use Rattle.scp_workers.specs.scp_ends.specs.Order.{values}
 use Rattle.scp_workers.specs.Working.{sent_by}
 use Rattle.scp_workers.specs.Slot.{IsFor as JournalsFor, HaveFates}
 use Rattle.scp_gather.specs.Left.{Left}

@@ -4,10 +4,10 @@ use Rattle.std.specs.Prelude.{All, sum_by, count_by, option_to_list}
 use Rattle.std.proofs.lemmas.List.{length-append}
 use Rattle.std.proofs.lemmas.List.Elements.{All-head, All-tail}
 use Rattle.std.proofs.lemmas.List.Sums.{sum_by-cons}
-use Rattle.scp_wire.specs.declared.link.Inbound.{Inbound}
-use Rattle.scp_wire.specs.Reading.{ReadingIsSpelt}
-use Rattle.scp_pending.specs.declared.ready.Ready.{Ready}
-use Rattle.scp_pending.specs.Rules.{PendingView, Settled}
+use Rattle.scp_workers.specs.scp_wire.specs.declared.link.Inbound.{Inbound}
+use Rattle.scp_workers.specs.scp_wire.specs.Reading.{ReadingIsSpelt}
+use Rattle.scp_workers.specs.scp_pending.specs.declared.ready.Ready.{Ready}
+use Rattle.scp_workers.specs.scp_pending.specs.Rules.{PendingView, Settled}
 use Rattle.scp_gather.specs.Count.{FilledLink, IsInHand, IsLinkWithin, TookOne, is_message, parked_in_all, messages_held, link_held, link_room, HoldsAtMost}
 use Rattle.scp_gather.proofs.Hand.{few_in_hand}
 use Rattle.scp_gather.proofs.Small.{few_held}

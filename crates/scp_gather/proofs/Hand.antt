@@ -1,14 +1,14 @@
 -- How much of one item a reader has in hand.
 use Rattle.std.proofs.Common.{◌≡◌, ℕ, ◌+◌, ◌≤◌, Bool, true, false, cond, refl, List, [], ◌∷◌, length, Option, Some, None, arith}
-use Rattle.scp_types.specs.declared.names.ConnId.{ConnId}
-use Rattle.scp_wire.specs.declared.link.LinkItem.{LinkItem}
-use Rattle.scp_wire.specs.declared.link.LinkItem.TheVariants as item
-use Rattle.scp_wire.specs.declared.link.Inbound.TheVariants as inbound
-use Rattle.scp_wire.specs.declared.link.Cause.TheVariants.{Link}
-use Rattle.scp_wire.specs.declared.message.Message.{Message}
-use Rattle.scp_wire.specs.declared.message.Message.TheVariants.{Envelope, GetSet, Set, NoSet, GetRecord, Record, Records}
-use Rattle.scp_wire.specs.LinkReading.{ReaderView, records_from, singles, is_spent, next_of, brought_one, brought_each, brought, reading}
-use Rattle.scp_wire.specs.Reading.{reading_of, ReadingIsSpelt}
+use Rattle.scp_workers.specs.scp_types.specs.declared.names.ConnId.{ConnId}
+use Rattle.scp_workers.specs.scp_wire.specs.declared.link.LinkItem.{LinkItem}
+use Rattle.scp_workers.specs.scp_wire.specs.declared.link.LinkItem.TheVariants as item
+use Rattle.scp_workers.specs.scp_wire.specs.declared.link.Inbound.TheVariants as inbound
+use Rattle.scp_workers.specs.scp_wire.specs.declared.link.Cause.TheVariants.{Link}
+use Rattle.scp_workers.specs.scp_wire.specs.declared.message.Message.{Message}
+use Rattle.scp_workers.specs.scp_wire.specs.declared.message.Message.TheVariants.{Envelope, GetSet, Set, NoSet, GetRecord, Record, Records}
+use Rattle.scp_workers.specs.scp_wire.specs.LinkReading.{ReaderView, records_from, singles, is_spent, next_of, brought_one, brought_each, brought, reading}
+use Rattle.scp_workers.specs.scp_wire.specs.Reading.{reading_of, ReadingIsSpelt}
 use Rattle.scp_gather.specs.Count.{HasBytes}
 
 records_few : (slot : ℕ) (values : List (List ℕ)) → length (records_from slot values) ≡ length values

@@ -1,10 +1,10 @@
 -- What is reported of a node keeps the headline.
 use Rattle.std.proofs.Common.{ℕ, List, sym, subst}
-use Rattle.scp_driver.specs.Driver.{Says}
-use Rattle.scp_ledger.specs.declared.journal.Decision.{Decision}
-use Rattle.scp_ledger.specs.declared.journal.Fate.{Fate}
-use Rattle.scp_theorem.specs.Books.{books_of, LedgerKeepsHeadline}
-use Rattle.scp_theorem.specs.Headline.{Books, Headline}
+use Rattle.scp_workers.specs.scp_driver.specs.Driver.{Says}
+use Rattle.scp_workers.specs.scp_ledger.specs.declared.journal.Decision.{Decision}
+use Rattle.scp_workers.specs.scp_ledger.specs.declared.journal.Fate.{Fate}
+use Rattle.scp_workers.specs.scp_theorem.specs.Books.{books_of, LedgerKeepsHeadline}
+use Rattle.scp_workers.specs.scp_theorem.specs.Headline.{Books, Headline}
 use Rattle.scp_gather.specs.Gathered.{account_gathered}
 use Rattle.scp_gather.specs.Headline.{ReportsKeepHeadline}
 

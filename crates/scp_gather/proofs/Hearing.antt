@@ -2,11 +2,11 @@
 use Rattle.std.proofs.Common.{◌≡◌, ℕ, ◌==◌, Bool, true, false, cond, List, [], ◌∷◌, ◌++◌, filter, refl, sym, ◌∙◌, subst, eq-eqb}
 use Rattle.std.specs.List.{AllByRecursion}
 use Rattle.std.proofs.lemmas.List.Elements.{filter-append}
-use Rattle.scp_ends.specs.declared.item.Item.{Item}
-use Rattle.scp_ends.specs.declared.item.Item.TheVariants.{One, Stop}
-use Rattle.scp_ends.specs.Order.{number_of, of, values}
-use Rattle.scp_ends.specs.Ends.{Sender, Receiver, ended, stopped, heard, HeardAll, IsQueued}
-use Rattle.scp_ends.proofs.Whole.{all_of, alone_of, stopped_of, whole_of}
+use Rattle.scp_workers.specs.scp_ends.specs.declared.item.Item.{Item}
+use Rattle.scp_workers.specs.scp_ends.specs.declared.item.Item.TheVariants.{One, Stop}
+use Rattle.scp_workers.specs.scp_ends.specs.Order.{number_of, of, values}
+use Rattle.scp_workers.specs.scp_ends.specs.Ends.{Sender, Receiver, ended, stopped, heard, HeardAll, IsQueued}
+use Rattle.scp_workers.specs.scp_ends.proofs.Whole.{all_of, alone_of, stopped_of, whole_of}
 use Rattle.scp_gather.specs.Gathered.{IsEmptied}
 
 module _ {T : Type 0} where

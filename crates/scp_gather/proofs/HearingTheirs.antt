@@ -4,19 +4,19 @@ use Rattle.std.specs.Prelude.{Option, Some, All, AllPairs}
 use Rattle.std.specs.List.{AllZip}
 use Rattle.std.proofs.lemmas.Grind.{flat_map-append}
 use Rattle.std.proofs.lemmas.List.Elements.{All-nil, All-cons, All-head, All-tail, All-weaker}
-use Rattle.scp_types.specs.declared.names.ConnId.{ConnId}
-use Rattle.scp_wire.specs.declared.link.Cause.TheVariants.{Link, Spent}
-use Rattle.scp_wire.specs.declared.link.Inbound.{Inbound}
-use Rattle.scp_wire.specs.declared.link.Inbound.TheVariants as inbound
-use Rattle.scp_wire.specs.declared.link.LinkItem.{LinkItem}
-use Rattle.scp_wire.specs.declared.link.LinkItem.TheVariants as item
-use Rattle.scp_wire.specs.declared.message.Message.{Message}
-use Rattle.scp_wire.specs.declared.message.Message.TheVariants.{Envelope, GetSet, Set, NoSet, GetRecord, Record, Records}
-use Rattle.scp_wire.specs.LinkReading.{ReaderView, unread, numbered, singles, is_spent, brought_each, after_each, brought, after_read, readings}
-use Rattle.scp_wire.specs.Message.{message_value, SpellsMessage}
-use Rattle.scp_wire.specs.Reading.{reading_of, SpellingIsRead}
-use Rattle.scp_outbox.specs.Sent.{statement_of, IsStep}
-use Rattle.scp_theorem.specs.Grounds.{Grounds, MaySend}
+use Rattle.scp_workers.specs.scp_types.specs.declared.names.ConnId.{ConnId}
+use Rattle.scp_workers.specs.scp_wire.specs.declared.link.Cause.TheVariants.{Link, Spent}
+use Rattle.scp_workers.specs.scp_wire.specs.declared.link.Inbound.{Inbound}
+use Rattle.scp_workers.specs.scp_wire.specs.declared.link.Inbound.TheVariants as inbound
+use Rattle.scp_workers.specs.scp_wire.specs.declared.link.LinkItem.{LinkItem}
+use Rattle.scp_workers.specs.scp_wire.specs.declared.link.LinkItem.TheVariants as item
+use Rattle.scp_workers.specs.scp_wire.specs.declared.message.Message.{Message}
+use Rattle.scp_workers.specs.scp_wire.specs.declared.message.Message.TheVariants.{Envelope, GetSet, Set, NoSet, GetRecord, Record, Records}
+use Rattle.scp_workers.specs.scp_wire.specs.LinkReading.{ReaderView, unread, numbered, singles, is_spent, brought_each, after_each, brought, after_read, readings}
+use Rattle.scp_workers.specs.scp_wire.specs.Message.{message_value, SpellsMessage}
+use Rattle.scp_workers.specs.scp_wire.specs.Reading.{reading_of, SpellingIsRead}
+use Rattle.scp_workers.specs.scp_outbox.specs.Sent.{statement_of, IsStep}
+use Rattle.scp_workers.specs.scp_theorem.specs.Grounds.{Grounds, MaySend}
 use Rattle.scp_gather.specs.Sent.{bytes_among}
 use Rattle.scp_gather.specs.Theirs.{message_by, messages_by, IsWellRead, WhatIsReadIsTheirs, WhatCameFirstIsTheirs}
 use Rattle.scp_gather.proofs.Parts.{IsPartOf, part_all, part_pairs, front_all, front_pairs}

@@ -4,51 +4,51 @@ use Rattle.std.specs.Prelude.{Option, None, Some, IfSome, slice_get, filter}
 use Rattle.std.specs.List.{AllByRecursion}
 use Rattle.std.proofs.lemmas.List.{append-nil}
 use Rattle.std.proofs.lemmas.Bool.{ne_eqb}
-use Rattle.scp_driver.specs.Driver.{Says}
-use Rattle.scp_types.specs.declared.names.NodeId.{NodeId}
-use Rattle.scp_types.specs.declared.names.ConnId.{ConnId}
-use Rattle.scp_quorum.specs.QuorumTree.{QuorumTree}
-use Rattle.scp_wire.specs.declared.carried.Carried.{Carried}
-use Rattle.scp_wire.specs.declared.link.Inbound.{Inbound}
-use Rattle.scp_wire.specs.declared.message.Message.{Message}
-use Rattle.scp_wire.specs.Connections.{conn_at}
-use Rattle.scp_wire.specs.Lanes.{slots_of, in_lane, EndsLast, HaveSlots}
-use Rattle.scp_wire.specs.LinkReading.{unread, readings}
-use Rattle.scp_wire.specs.Marks.{Mark, messages_in, IsWhole}
-use Rattle.scp_wire.specs.Parts.{IsNumbered, PeersSayAllOfTheirs, NumbersNameMessages}
-use Rattle.scp_wire.specs.ReaderLaws.{ReadingsAreInOrder, ReadingsAreSent}
-use Rattle.scp_wire.specs.Sent.{sent, carried_of}
-use Rattle.scp_wire.specs.Shape.{HasShape, Come, MayCome, AreInOrder, AreOfLink, never_open, nothing_came, of_peer, is_from}
-use Rattle.scp_pending.specs.declared.ready.Ready.{Ready}
-use Rattle.scp_pending.specs.Causes.{IsSettledBy}
-use Rattle.scp_pending.specs.Laws.{AllAccounts}
-use Rattle.scp_pending.specs.Line.{Accounts, held, marks_of, marks_parked}
-use Rattle.scp_pending.specs.Messages.{AreParked, StandFor, ParkedStandFor, marks_of_messages}
-use Rattle.scp_pending.specs.Pends.{Pends, RestIsSettled, start_of}
-use Rattle.scp_pending.specs.Rules.{Settled, fresh}
-use Rattle.scp_ledger.specs.declared.took.Onward.{Onward}
-use Rattle.scp_ledger.specs.Marks.{marks_of as marks_on}
-use Rattle.scp_theorem.specs.Account.{Account, Ran}
-use Rattle.scp_theorem.specs.Kept.{KeepsLedger, RanKeepsLedger, slots_sent, line_sent, line_held}
-use Rattle.scp_ends.specs.Commands.{IsCommand}
-use Rattle.scp_ends.specs.Ends.{Sender, heard}
-use Rattle.scp_ends.specs.Links.{LinkEnd}
-use Rattle.scp_ends.specs.Order.{of, values}
+use Rattle.scp_workers.specs.scp_driver.specs.Driver.{Says}
+use Rattle.scp_workers.specs.scp_types.specs.declared.names.NodeId.{NodeId}
+use Rattle.scp_workers.specs.scp_types.specs.declared.names.ConnId.{ConnId}
+use Rattle.scp_workers.specs.scp_quorum.specs.QuorumTree.{QuorumTree}
+use Rattle.scp_workers.specs.scp_wire.specs.declared.carried.Carried.{Carried}
+use Rattle.scp_workers.specs.scp_wire.specs.declared.link.Inbound.{Inbound}
+use Rattle.scp_workers.specs.scp_wire.specs.declared.message.Message.{Message}
+use Rattle.scp_workers.specs.scp_wire.specs.Connections.{conn_at}
+use Rattle.scp_workers.specs.scp_wire.specs.Lanes.{slots_of, in_lane, EndsLast, HaveSlots}
+use Rattle.scp_workers.specs.scp_wire.specs.LinkReading.{unread, readings}
+use Rattle.scp_workers.specs.scp_wire.specs.Marks.{Mark, messages_in, IsWhole}
+use Rattle.scp_workers.specs.scp_wire.specs.Parts.{IsNumbered, PeersSayAllOfTheirs, NumbersNameMessages}
+use Rattle.scp_workers.specs.scp_wire.specs.ReaderLaws.{ReadingsAreInOrder, ReadingsAreSent}
+use Rattle.scp_workers.specs.scp_wire.specs.Sent.{sent, carried_of}
+use Rattle.scp_workers.specs.scp_wire.specs.Shape.{HasShape, Come, MayCome, AreInOrder, AreOfLink, never_open, nothing_came, of_peer, is_from}
+use Rattle.scp_workers.specs.scp_pending.specs.declared.ready.Ready.{Ready}
+use Rattle.scp_workers.specs.scp_pending.specs.Causes.{IsSettledBy}
+use Rattle.scp_workers.specs.scp_pending.specs.Laws.{AllAccounts}
+use Rattle.scp_workers.specs.scp_pending.specs.Line.{Accounts, held, marks_of, marks_parked}
+use Rattle.scp_workers.specs.scp_pending.specs.Messages.{AreParked, StandFor, ParkedStandFor, marks_of_messages}
+use Rattle.scp_workers.specs.scp_pending.specs.Pends.{Pends, RestIsSettled, start_of}
+use Rattle.scp_workers.specs.scp_pending.specs.Rules.{Settled, fresh}
+use Rattle.scp_workers.specs.scp_ledger.specs.declared.took.Onward.{Onward}
+use Rattle.scp_workers.specs.scp_ledger.specs.Marks.{marks_of as marks_on}
+use Rattle.scp_workers.specs.scp_theorem.specs.Account.{Account, Ran}
+use Rattle.scp_workers.specs.scp_theorem.specs.Kept.{KeepsLedger, RanKeepsLedger, slots_sent, line_sent, line_held}
+use Rattle.scp_workers.specs.scp_ends.specs.Commands.{IsCommand}
+use Rattle.scp_workers.specs.scp_ends.specs.Ends.{Sender, heard}
+use Rattle.scp_workers.specs.scp_ends.specs.Links.{LinkEnd}
+use Rattle.scp_workers.specs.scp_ends.specs.Order.{of, values}
 use Rattle.scp_workers.specs.Working.{sent_by}
 use Rattle.scp_workers.specs.Reading.{ReaderEnd, HasReadAll}
 use Rattle.scp_workers.specs.Pending.{IsFor as PendsFor}
-use Rattle.scp_ledger.specs.By.{JournalsBy}
+use Rattle.scp_workers.specs.scp_ledger.specs.By.{JournalsBy}
 use Rattle.scp_workers.specs.Slot.{IsFor as JournalsFor}
 use Rattle.scp_gather.specs.Left.{Left, items_of, sent_over}
 use Rattle.scp_gather.specs.Node.{IsLinkAt, IsReadOut, IsNode, EndWell}
 use Rattle.scp_gather.specs.Gathered.{account_gathered, is_command, IsEmptied, AreEmptied, HasItsLine, AreLeftParked, Gathered, WhatEndsWellIsGathered}
-use Rattle.scp_ends.proofs.Whole.{no_others}
+use Rattle.scp_workers.specs.scp_ends.proofs.Whole.{no_others}
 use Rattle.scp_gather.proofs.Hearing.{emptied, sole_is, Tells, picked, of_each}
-use Rattle.scp_theorem.proofs.Basics.{there_is}
+use Rattle.scp_workers.specs.scp_theorem.proofs.Basics.{there_is}
 use Rattle.scp_gather.proofs.Lists.{split, within, same_at, other_at, all_map}
-use Rattle.scp_theorem.proofs.Coming.{from_one}
+use Rattle.scp_workers.specs.scp_theorem.proofs.Coming.{from_one}
 use Rattle.scp_gather.proofs.Coming.{no_command, from_none, told_one, all_in_order, same_place, IsCarriedByLink, carried_by_link, told_by_link}
-use Rattle.scp_theorem.proofs.Entries.{same_marks}
+use Rattle.scp_workers.specs.scp_theorem.proofs.Entries.{same_marks}
 use Rattle.scp_gather.proofs.Parking.{parked_right, parked_of_links}
 
 module _ {D : Type 0} (says : Says D) where

@@ -4,19 +4,19 @@ use Rattle.std.specs.Prelude.{Option, Some, IfSome, is_some, map, slice_get}
 use Rattle.std.specs.Global.{Vec}
 use Rattle.std.specs.List.{AllZip}
 use Rattle.std.proofs.lemmas.List.{append-nil, length-append, length-map, nil_from_length}
-use Rattle.scp_driver.specs.Driver.{Says}
-use Rattle.scp_types.specs.declared.names.NodeId.{NodeId}
-use Rattle.scp_quorum.specs.QuorumTree.{QuorumTree}
-use Rattle.scp_wire.specs.declared.link.LinkItem.{LinkItem}
-use Rattle.scp_ends.specs.Order.{values}
-use Rattle.scp_ends.specs.Links.{LinkEnd}
+use Rattle.scp_workers.specs.scp_driver.specs.Driver.{Says}
+use Rattle.scp_workers.specs.scp_types.specs.declared.names.NodeId.{NodeId}
+use Rattle.scp_workers.specs.scp_quorum.specs.QuorumTree.{QuorumTree}
+use Rattle.scp_workers.specs.scp_wire.specs.declared.link.LinkItem.{LinkItem}
+use Rattle.scp_workers.specs.scp_ends.specs.Order.{values}
+use Rattle.scp_workers.specs.scp_ends.specs.Links.{LinkEnd}
 use Rattle.scp_workers.specs.Reading.{ReaderEnd}
 use Rattle.scp_gather.specs.Left.{Left, items_of, sent_over}
 use Rattle.scp_gather.specs.Node.{IsNode, IsReadOut, EndWell}
 use Rattle.scp_gather.specs.Report.{AreCame, AreKept, keeps_by}
 use Rattle.scp_gather.specs.inside.Kept.{kept_by}
 use Rattle.scp_gather.proofs.Hearing.{sole_is}
-use Rattle.scp_theorem.proofs.Basics.{there_is}
+use Rattle.scp_workers.specs.scp_theorem.proofs.Basics.{there_is}
 use Rattle.scp_gather.proofs.Lists.{within, zip_length}
 
 -- where each link was paired with a reader, and there are as many of both, so was each reader

@@ -1,16 +1,16 @@
 -- What is parked came.
 use Rattle.std.proofs.Common.{List, [], ◌∷◌}
 use Rattle.std.specs.List.{AllByRecursion}
-use Rattle.scp_types.specs.declared.names.ConnId.{ConnId}
-use Rattle.scp_types.specs.declared.names.NodeId.{NodeId}
-use Rattle.scp_wire.specs.declared.carried.Carried.{Carried}
-use Rattle.scp_wire.specs.declared.message.Message.{Message}
-use Rattle.scp_wire.specs.declared.link.Inbound.{Inbound}
-use Rattle.scp_wire.specs.declared.link.Inbound.TheVariants as inbound
-use Rattle.scp_wire.specs.Parts.{IsNumbered}
-use Rattle.scp_pending.specs.Causes.{Place}
-use Rattle.scp_pending.specs.Rules.{Settled}
-use Rattle.scp_theorem.specs.Fates.{IsOfLink}
+use Rattle.scp_workers.specs.scp_types.specs.declared.names.ConnId.{ConnId}
+use Rattle.scp_workers.specs.scp_types.specs.declared.names.NodeId.{NodeId}
+use Rattle.scp_workers.specs.scp_wire.specs.declared.carried.Carried.{Carried}
+use Rattle.scp_workers.specs.scp_wire.specs.declared.message.Message.{Message}
+use Rattle.scp_workers.specs.scp_wire.specs.declared.link.Inbound.{Inbound}
+use Rattle.scp_workers.specs.scp_wire.specs.declared.link.Inbound.TheVariants as inbound
+use Rattle.scp_workers.specs.scp_wire.specs.Parts.{IsNumbered}
+use Rattle.scp_workers.specs.scp_pending.specs.Causes.{Place}
+use Rattle.scp_workers.specs.scp_pending.specs.Rules.{Settled}
+use Rattle.scp_workers.specs.scp_theorem.specs.Fates.{IsOfLink}
 use Rattle.scp_gather.specs.Gathered.{IsOfItsNumber}
 use Rattle.scp_gather.proofs.Coming.{IsCarriedByLink}
 use Rattle.scp_gather.proofs.Lists.{all_mid}

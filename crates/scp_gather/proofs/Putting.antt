@@ -1,15 +1,15 @@
 -- What the stages of a node put into the outboxes of its links, and what became of its commands in the same run.
-use Rattle.std.proofs.Common.{◌≡◌, List, refl, sym, ◌∙◌, ap, subst, append-nil}
-use Rattle.scp_driver.specs.Driver.{Says}
-use Rattle.scp_types.specs.declared.names.NodeId.{NodeId}
-use Rattle.scp_quorum.specs.QuorumTree.{QuorumTree}
-use Rattle.scp_wire.specs.declared.link.Inbound.{Inbound}
-use Rattle.scp_pending.specs.Laws.{CommandsPass}
-use Rattle.scp_pending.specs.Rules.{fresh}
-use Rattle.scp_apply.specs.Applier.{ApplierView}
-use Rattle.scp_theorem.specs.Account.{Ran}
-use Rattle.scp_theorem.specs.Handed.{replies_from, nothing_applied, AnswersEach}
-use Rattle.scp_ends.specs.Order.{values}
+use Rattle.std.proofs.Common.{◌≡◌, ℕ, List, [], refl, sym, ◌∙◌, ap, subst, append-nil}
+use Rattle.scp_workers.specs.scp_driver.specs.Driver.{Says}
+use Rattle.scp_workers.specs.scp_types.specs.declared.names.NodeId.{NodeId}
+use Rattle.scp_workers.specs.scp_quorum.specs.QuorumTree.{QuorumTree}
+use Rattle.scp_workers.specs.scp_wire.specs.declared.link.Inbound.{Inbound}
+use Rattle.scp_workers.specs.scp_pending.specs.Laws.{CommandsPass}
+use Rattle.scp_workers.specs.scp_pending.specs.Rules.{fresh}
+use Rattle.scp_workers.specs.scp_apply.specs.Applier.{ApplierView}
+use Rattle.scp_workers.specs.scp_theorem.specs.Account.{Ran}
+use Rattle.scp_workers.specs.scp_theorem.specs.Handed.{replies_from, nothing_applied, AnswersEach}
+use Rattle.scp_workers.specs.scp_ends.specs.Order.{values}
 use Rattle.scp_workers.specs.Pending.{IsFor as PendsFor}
 use Rattle.scp_gather.specs.Left.{Left}
 use Rattle.scp_gather.specs.Node.{IsNode, EndWell}
@@ -39,9 +39,9 @@ module _ {D : Type 0} (says : Says D) where
       first = w.applies.all.from_one ∙ sym w.journals.all.from_one;
     }
 
-    -- the applier began as a new one of the ledger's first slot
-    begun : e.apply.first ≡ nothing_applied e.slot.stage.ledger.first
-    begun = w.applies.all.begun ∙ ap nothing_applied (sym w.journals.all.from_one)
+    -- the applier began as a new one of the ledger's first slot, with its own bytes
+    begun : e.apply.first ≡ nothing_applied e.slot.stage.ledger.first e.apply.stage.base
+    begun = w.applies.all.begun ∙ ap (λ (n : ℕ). nothing_applied n []) (sym w.journals.all.from_one) ∙ ap (λ (base : List ℕ). nothing_applied e.slot.stage.ledger.first base) (sym w.applies.all.no_base)
 
     pub fates_of_node : AreFatesOf says me set peers e e.slot.stage.fates.items
     fates_of_node =

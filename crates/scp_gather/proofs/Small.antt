@@ -4,23 +4,23 @@ use Rattle.std.specs.Prelude.{not, ◌&&◌, map, filter}
 use Rattle.std.specs.List.{AllByRecursion}
 use Rattle.std.proofs.lemmas.Bool.Decides.{nat_tests}
 use Rattle.std.proofs.lemmas.List.{length-append}
-use Rattle.scp_types.specs.declared.names.ConnId.{ConnId}
-use Rattle.scp_types.specs.declared.names.Hash.{Hash}
-use Rattle.scp_types.specs.declared.names.NodeId.{NodeId}
-use Rattle.scp_wire.specs.declared.carried.Carried.{Carried}
-use Rattle.scp_wire.specs.declared.link.Inbound.{Inbound}
-use Rattle.scp_wire.specs.declared.link.Inbound.TheVariants as inbound
-use Rattle.scp_wire.specs.declared.link.Command.TheVariants.{Tick, Propose, Round, Timer, Ask}
-use Rattle.scp_wire.specs.declared.side.SideMessage.{SideMessage}
-use Rattle.scp_wire.specs.declared.side.SideMessage.TheVariants.{GetSet, Set, NoSet}
-use Rattle.scp_fetch.specs.Wants.{gives_up, last_missed, missed_by}
-use Rattle.scp_fetch.specs.declared.want.Miss.TheVariants.{One}
-use Rattle.scp_pending.specs.declared.parked.Parked.{Parked}
-use Rattle.scp_pending.specs.declared.ready.DropCause.TheVariants.{GaveUp}
-use Rattle.scp_pending.specs.declared.ready.Ready.{Ready}
-use Rattle.scp_pending.specs.Pends.{Pends, start_of}
-use Rattle.scp_pending.specs.Queues.{QueueView, is_of, is_open, is_head_waiting, is_hash, hash_of, parked_of, others, changed, is_empty, served, stays_in, in_order_of, resolved_one, resolved_in, resolved, lost_by, with_parked, parked_in}
-use Rattle.scp_pending.specs.Rules.{PendingView, Settled, opens, opened, closed_off, is_full, goes_through, entering, parks, brings, is_answer, answered, by_answer, is_given_up, gives_up_one, hears, rules, settled_by}
+use Rattle.scp_workers.specs.scp_types.specs.declared.names.ConnId.{ConnId}
+use Rattle.scp_workers.specs.scp_types.specs.declared.names.Hash.{Hash}
+use Rattle.scp_workers.specs.scp_types.specs.declared.names.NodeId.{NodeId}
+use Rattle.scp_workers.specs.scp_wire.specs.declared.carried.Carried.{Carried}
+use Rattle.scp_workers.specs.scp_wire.specs.declared.link.Inbound.{Inbound}
+use Rattle.scp_workers.specs.scp_wire.specs.declared.link.Inbound.TheVariants as inbound
+use Rattle.scp_workers.specs.scp_wire.specs.declared.link.Command.TheVariants.{Tick, Propose, Round, Timer, Ask}
+use Rattle.scp_workers.specs.scp_wire.specs.declared.side.SideMessage.{SideMessage}
+use Rattle.scp_workers.specs.scp_wire.specs.declared.side.SideMessage.TheVariants.{GetSet, Set, NoSet}
+use Rattle.scp_workers.specs.scp_fetch.specs.Wants.{gives_up, last_missed, missed_by}
+use Rattle.scp_workers.specs.scp_fetch.specs.declared.want.Miss.TheVariants.{One}
+use Rattle.scp_workers.specs.scp_pending.specs.declared.parked.Parked.{Parked}
+use Rattle.scp_workers.specs.scp_pending.specs.declared.ready.DropCause.TheVariants.{GaveUp}
+use Rattle.scp_workers.specs.scp_pending.specs.declared.ready.Ready.{Ready}
+use Rattle.scp_workers.specs.scp_pending.specs.Pends.{Pends, start_of}
+use Rattle.scp_workers.specs.scp_pending.specs.Queues.{QueueView, is_of, is_open, is_head_waiting, is_hash, hash_of, parked_of, others, changed, is_empty, served, stays_in, in_order_of, resolved_one, resolved_in, resolved, lost_by, with_parked, parked_in}
+use Rattle.scp_workers.specs.scp_pending.specs.Rules.{PendingView, Settled, opens, opened, closed_off, is_full, goes_through, entering, parks, brings, is_answer, answered, by_answer, is_given_up, gives_up_one, hears, rules, settled_by}
 use Rattle.scp_gather.specs.Count.{parked_in_all}
 use Rattle.scp_gather.proofs.Taking.{cons_parked, leave_or_stay}
 

@@ -3,26 +3,26 @@ use Rattle.std.proofs.Common.{◌≡◌, ◌∙◌, ℕ, ◌+◌, ◌≤◌, Boo
 use Rattle.std.specs.Prelude.{not, map, filter, count_by}
 use Rattle.std.proofs.lemmas.List.Sums.{sum_by-cons, sum_by-append}
 use Rattle.std.proofs.lemmas.List.{length-append}
-use Rattle.scp_types.specs.declared.names.ConnId.{ConnId}
-use Rattle.scp_types.specs.declared.names.Hash.{Hash}
-use Rattle.scp_wire.specs.declared.carried.Carried.{Carried}
-use Rattle.scp_wire.specs.declared.link.Inbound.{Inbound}
-use Rattle.scp_wire.specs.declared.link.Inbound.TheVariants as inbound
-use Rattle.scp_wire.specs.declared.link.Command.TheVariants.{Tick, Propose, Round, Timer, Ask}
-use Rattle.scp_wire.specs.declared.link.Cause.{Cause}
-use Rattle.scp_wire.specs.declared.link.Cause.TheVariants.{ParkedFull}
-use Rattle.scp_wire.specs.declared.side.SideMessage.{SideMessage}
-use Rattle.scp_wire.specs.declared.side.SideMessage.TheVariants.{GetSet, Set, NoSet}
-use Rattle.scp_fetch.specs.Wants.{gives_up, last_missed, missed_by}
-use Rattle.scp_fetch.specs.declared.want.Miss.TheVariants.{One}
-use Rattle.scp_pending.specs.declared.parked.Parked.{Parked}
-use Rattle.scp_pending.specs.declared.parked.Parked.TheVariants.{Waits, Free, Lost}
-use Rattle.scp_pending.specs.declared.ready.DropCause.{DropCause}
-use Rattle.scp_pending.specs.declared.ready.DropCause.TheVariants.{GaveUp, Closed as ByClose, ParkedFull as ByFull}
-use Rattle.scp_pending.specs.declared.ready.Ready.{Ready}
-use Rattle.scp_pending.specs.declared.ready.Ready.TheVariants.{Dropped, Closed}
-use Rattle.scp_pending.specs.Queues.{QueueView, is_of, is_open, is_head_waiting, is_hash, hash_of, parked_of, others, changed, is_empty, is_held, fate, leaves_behind, stays_behind, served, stays_in, leaves_in, leaving_of, with_first, in_order_of, resolved_one, resolved_in, resolved, lost_by, with_parked, parked_in, dropped}
-use Rattle.scp_pending.specs.Rules.{Settled, opens, goes_through, overflows, entering, parks, closed_off, brings, brought, is_answer, by_answer, answered, gives_up_one, missed_all, is_given_up, hears, heard_out, opened, rules, releases}
+use Rattle.scp_workers.specs.scp_types.specs.declared.names.ConnId.{ConnId}
+use Rattle.scp_workers.specs.scp_types.specs.declared.names.Hash.{Hash}
+use Rattle.scp_workers.specs.scp_wire.specs.declared.carried.Carried.{Carried}
+use Rattle.scp_workers.specs.scp_wire.specs.declared.link.Inbound.{Inbound}
+use Rattle.scp_workers.specs.scp_wire.specs.declared.link.Inbound.TheVariants as inbound
+use Rattle.scp_workers.specs.scp_wire.specs.declared.link.Command.TheVariants.{Tick, Propose, Round, Timer, Ask}
+use Rattle.scp_workers.specs.scp_wire.specs.declared.link.Cause.{Cause}
+use Rattle.scp_workers.specs.scp_wire.specs.declared.link.Cause.TheVariants.{ParkedFull}
+use Rattle.scp_workers.specs.scp_wire.specs.declared.side.SideMessage.{SideMessage}
+use Rattle.scp_workers.specs.scp_wire.specs.declared.side.SideMessage.TheVariants.{GetSet, Set, NoSet}
+use Rattle.scp_workers.specs.scp_fetch.specs.Wants.{gives_up, last_missed, missed_by}
+use Rattle.scp_workers.specs.scp_fetch.specs.declared.want.Miss.TheVariants.{One}
+use Rattle.scp_workers.specs.scp_pending.specs.declared.parked.Parked.{Parked}
+use Rattle.scp_workers.specs.scp_pending.specs.declared.parked.Parked.TheVariants.{Waits, Free, Lost}
+use Rattle.scp_workers.specs.scp_pending.specs.declared.ready.DropCause.{DropCause}
+use Rattle.scp_workers.specs.scp_pending.specs.declared.ready.DropCause.TheVariants.{GaveUp, Closed as ByClose, ParkedFull as ByFull}
+use Rattle.scp_workers.specs.scp_pending.specs.declared.ready.Ready.{Ready}
+use Rattle.scp_workers.specs.scp_pending.specs.declared.ready.Ready.TheVariants.{Dropped, Closed}
+use Rattle.scp_workers.specs.scp_pending.specs.Queues.{QueueView, is_of, is_open, is_head_waiting, is_hash, hash_of, parked_of, others, changed, is_empty, is_held, fate, leaves_behind, stays_behind, served, stays_in, leaves_in, leaving_of, with_first, in_order_of, resolved_one, resolved_in, resolved, lost_by, with_parked, parked_in, dropped}
+use Rattle.scp_workers.specs.scp_pending.specs.Rules.{Settled, opens, goes_through, overflows, entering, parks, closed_off, brings, brought, is_answer, by_answer, answered, gives_up_one, missed_all, is_given_up, hears, heard_out, opened, rules, releases}
 use Rattle.scp_gather.specs.Count.{is_message, parked_in_all}
 
 abbrev size : QueueView → ℕ

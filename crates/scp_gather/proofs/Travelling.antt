@@ -4,21 +4,21 @@ use Rattle.std.specs.Prelude.{None, All, Contains}
 use Rattle.std.specs.List.{AllZip}
 use Rattle.std.proofs.lemmas.Grind.{flat_map-append}
 use Rattle.std.proofs.lemmas.List.Elements.{All-nil, All-cons, All-contains, All-weaker, Contains-append_right}
-use Rattle.scp_wire.specs.declared.link.LinkItem.{LinkItem}
-use Rattle.scp_wire.specs.declared.link.LinkItem.TheVariants as item
-use Rattle.scp_wire.specs.declared.message.Message.{Message}
-use Rattle.scp_wire.specs.Message.{message_value, SpellsMessage}
-use Rattle.scp_outbox.specs.declared.mark.Mark.{Mark}
-use Rattle.scp_outbox.specs.declared.mark.Mark.TheVariants.{Opened, Closed, Stop}
-use Rattle.scp_outbox.specs.declared.mark.Out.{Out}
-use Rattle.scp_outbox.specs.declared.mark.Out.TheVariants as out
-use Rattle.scp_outbox.specs.Sent.{statement_of}
-use Rattle.scp_shared_outbox.specs.Laws.{messages_of, GivenWasPut, StatementsGoInOrder}
-use Rattle.scp_shared_outbox.specs.Table.{by_three}
-use Rattle.scp_ends.specs.Links.{LinkEnd, conn_now, conn_next, with_item}
+use Rattle.scp_workers.specs.scp_wire.specs.declared.link.LinkItem.{LinkItem}
+use Rattle.scp_workers.specs.scp_wire.specs.declared.link.LinkItem.TheVariants as item
+use Rattle.scp_workers.specs.scp_wire.specs.declared.message.Message.{Message}
+use Rattle.scp_workers.specs.scp_wire.specs.Message.{message_value, SpellsMessage}
+use Rattle.scp_workers.specs.scp_outbox.specs.declared.mark.Mark.{Mark}
+use Rattle.scp_workers.specs.scp_outbox.specs.declared.mark.Mark.TheVariants.{Opened, Closed, Stop}
+use Rattle.scp_workers.specs.scp_outbox.specs.declared.mark.Out.{Out}
+use Rattle.scp_workers.specs.scp_outbox.specs.declared.mark.Out.TheVariants as out
+use Rattle.scp_workers.specs.scp_outbox.specs.Sent.{statement_of}
+use Rattle.scp_workers.specs.scp_shared_outbox.specs.Laws.{messages_of, GivenWasPut, StatementsGoInOrder}
+use Rattle.scp_workers.specs.scp_shared_outbox.specs.Table.{by_three}
+use Rattle.scp_workers.specs.scp_ends.specs.Links.{LinkEnd, conn_now, conn_next, with_item}
 use Rattle.scp_workers.specs.Carrying.{Tells, Carried, unsent}
-use Rattle.scp_theorem.specs.Grounds.{Grounds, MaySend}
-use Rattle.scp_theorem.specs.Laws.{MayAnswer, MayGo}
+use Rattle.scp_workers.specs.scp_theorem.specs.Grounds.{Grounds, MaySend}
+use Rattle.scp_workers.specs.scp_theorem.specs.Laws.{MayAnswer, MayGo}
 use Rattle.scp_gather.specs.Sent.{bytes_on, bytes_among, WhatIsCarriedIsSentOut}
 
 -- ---- what was given

@@ -1,21 +1,21 @@
 -- How much a node holds, while its stages run in threads.
 use Rattle.std.specs.Prelude.{◌≡◌, ℕ, ◌+◌, ◌*◌, ◌≤◌, ◌⊎◌, Bool, true, false, List, ◌++◌, Option, All, length, sum_by, count_by, option_to_list}
-use Rattle.scp_types.specs.declared.limits.TheConstants.{WINDOW}
-use Rattle.scp_pending.specs.declared.pending.TheConstants.{PARKED_LIMIT}
-use Rattle.scp_types.specs.declared.names.NodeId.{NodeId}
-use Rattle.scp_wire.specs.declared.link.Inbound.{Inbound}
-use Rattle.scp_wire.specs.declared.link.LinkItem.{LinkItem}
-use Rattle.scp_wire.specs.declared.link.LinkItem.TheVariants as item
-use Rattle.scp_wire.specs.LinkReading.{ReaderView, reading}
-use Rattle.scp_wire.specs.Reading.{AreBytes}
-use Rattle.scp_pending.specs.declared.ready.Ready.{Ready}
-use Rattle.scp_pending.specs.declared.ready.Ready.TheVariants.{Deliver, Dropped, Closed, Local}
-use Rattle.scp_pending.specs.Pends.{Pends}
-use Rattle.scp_pending.specs.Queues.{QueueView}
-use Rattle.scp_pending.specs.Rules.{PendingView, rules, releases}
-use Rattle.scp_ledger.specs.declared.took.Onward.{Onward}
-use Rattle.scp_apply.specs.Applier.{ApplierView, IsRunning}
-use Rattle.scp_ends.specs.declared.item.Item.{Item}
+use Rattle.scp_workers.specs.scp_types.specs.declared.limits.TheConstants.{WINDOW}
+use Rattle.scp_workers.specs.scp_pending.specs.declared.pending.TheConstants.{PARKED_LIMIT}
+use Rattle.scp_workers.specs.scp_types.specs.declared.names.NodeId.{NodeId}
+use Rattle.scp_workers.specs.scp_wire.specs.declared.link.Inbound.{Inbound}
+use Rattle.scp_workers.specs.scp_wire.specs.declared.link.LinkItem.{LinkItem}
+use Rattle.scp_workers.specs.scp_wire.specs.declared.link.LinkItem.TheVariants as item
+use Rattle.scp_workers.specs.scp_wire.specs.LinkReading.{ReaderView, reading}
+use Rattle.scp_workers.specs.scp_wire.specs.Reading.{AreBytes}
+use Rattle.scp_workers.specs.scp_pending.specs.declared.ready.Ready.{Ready}
+use Rattle.scp_workers.specs.scp_pending.specs.declared.ready.Ready.TheVariants.{Deliver, Dropped, Closed, Local}
+use Rattle.scp_workers.specs.scp_pending.specs.Pends.{Pends}
+use Rattle.scp_workers.specs.scp_pending.specs.Queues.{QueueView}
+use Rattle.scp_workers.specs.scp_pending.specs.Rules.{PendingView, rules, releases}
+use Rattle.scp_workers.specs.scp_ledger.specs.declared.took.Onward.{Onward}
+use Rattle.scp_workers.specs.scp_apply.specs.Applier.{ApplierView, IsRunning}
+use Rattle.scp_workers.specs.scp_ends.specs.declared.item.Item.{Item}
 
 -- ---- what the parts hold
 

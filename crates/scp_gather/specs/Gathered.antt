@@ -1,31 +1,31 @@
 -- What follows if every worker of a node ended well.
 use Rattle.std.specs.Prelude.{◌≡◌, ℕ, Bool, true, false, List, [], ◌++◌, Some, IfSome, slice_get, filter}
 use Rattle.std.specs.List.{AllByRecursion}
-use Rattle.scp_driver.specs.Driver.{Says}
-use Rattle.scp_types.specs.declared.limits.TheConstants.{CARRIED_LIMIT}
-use Rattle.scp_types.specs.declared.names.ConnId.{ConnId}
-use Rattle.scp_types.specs.declared.names.NodeId.{NodeId}
-use Rattle.scp_quorum.specs.QuorumTree.{QuorumTree}
-use Rattle.scp_wire.specs.declared.carried.Carried.{Carried}
-use Rattle.scp_wire.specs.declared.message.Message.{Message}
-use Rattle.scp_wire.specs.declared.link.Inbound.{Inbound}
-use Rattle.scp_wire.specs.declared.link.Inbound.TheVariants as inbound
-use Rattle.scp_wire.specs.Connections.{conn_at, same_conn}
-use Rattle.scp_wire.specs.Lanes.{in_lane, EndsLast}
-use Rattle.scp_wire.specs.LinkReading.{unread, readings}
-use Rattle.scp_wire.specs.Marks.{IsWhole}
-use Rattle.scp_wire.specs.Sent.{sent, carried_of}
-use Rattle.scp_wire.specs.Shape.{HasShape, of_peer}
-use Rattle.scp_pending.specs.Causes.{IsSettledBy}
-use Rattle.scp_pending.specs.Messages.{AreParked, marks_of_messages}
-use Rattle.scp_pending.specs.Rules.{fresh}
-use Rattle.scp_ledger.specs.Marks.{marks_of as marks_on}
-use Rattle.scp_theorem.specs.Account.{Account}
-use Rattle.scp_theorem.specs.Fates.{IsOfLink}
-use Rattle.scp_theorem.specs.Kept.{KeepsLedger, slots_sent, line_sent}
-use Rattle.scp_ends.specs.Ends.{Sender, Receiver, IsQueued, heard}
-use Rattle.scp_ends.specs.Links.{LinkEnd}
-use Rattle.scp_ends.specs.Order.{of, values}
+use Rattle.scp_workers.specs.scp_driver.specs.Driver.{Says}
+use Rattle.scp_workers.specs.scp_types.specs.declared.limits.TheConstants.{CARRIED_LIMIT}
+use Rattle.scp_workers.specs.scp_types.specs.declared.names.ConnId.{ConnId}
+use Rattle.scp_workers.specs.scp_types.specs.declared.names.NodeId.{NodeId}
+use Rattle.scp_workers.specs.scp_quorum.specs.QuorumTree.{QuorumTree}
+use Rattle.scp_workers.specs.scp_wire.specs.declared.carried.Carried.{Carried}
+use Rattle.scp_workers.specs.scp_wire.specs.declared.message.Message.{Message}
+use Rattle.scp_workers.specs.scp_wire.specs.declared.link.Inbound.{Inbound}
+use Rattle.scp_workers.specs.scp_wire.specs.declared.link.Inbound.TheVariants as inbound
+use Rattle.scp_workers.specs.scp_wire.specs.Connections.{conn_at, same_conn}
+use Rattle.scp_workers.specs.scp_wire.specs.Lanes.{in_lane, EndsLast}
+use Rattle.scp_workers.specs.scp_wire.specs.LinkReading.{unread, readings}
+use Rattle.scp_workers.specs.scp_wire.specs.Marks.{IsWhole}
+use Rattle.scp_workers.specs.scp_wire.specs.Sent.{sent, carried_of}
+use Rattle.scp_workers.specs.scp_wire.specs.Shape.{HasShape, of_peer}
+use Rattle.scp_workers.specs.scp_pending.specs.Causes.{IsSettledBy}
+use Rattle.scp_workers.specs.scp_pending.specs.Messages.{AreParked, marks_of_messages}
+use Rattle.scp_workers.specs.scp_pending.specs.Rules.{fresh}
+use Rattle.scp_workers.specs.scp_ledger.specs.Marks.{marks_of as marks_on}
+use Rattle.scp_workers.specs.scp_theorem.specs.Account.{Account}
+use Rattle.scp_workers.specs.scp_theorem.specs.Fates.{IsOfLink}
+use Rattle.scp_workers.specs.scp_theorem.specs.Kept.{KeepsLedger, slots_sent, line_sent}
+use Rattle.scp_workers.specs.scp_ends.specs.Ends.{Sender, Receiver, IsQueued, heard}
+use Rattle.scp_workers.specs.scp_ends.specs.Links.{LinkEnd}
+use Rattle.scp_workers.specs.scp_ends.specs.Order.{of, values}
 use Rattle.scp_workers.specs.Reading.{ReaderEnd}
 use Rattle.scp_gather.specs.Left.{Left, sent_over}
 use Rattle.scp_gather.specs.Node.{IsNode, EndWell}

@@ -1,13 +1,13 @@
 -- The headline of a node that has ended: of what went over its links, and of what its report shows.
 use Rattle.std.specs.Prelude.{ℕ, List, Some}
-use Rattle.scp_driver.specs.Driver.{Says}
-use Rattle.scp_types.specs.declared.names.NodeId.{NodeId}
-use Rattle.scp_quorum.specs.QuorumTree.{QuorumTree}
-use Rattle.scp_wire.specs.declared.carried.Carried.{Carried}
-use Rattle.scp_ledger.specs.declared.journal.Decision.{Decision}
-use Rattle.scp_ledger.specs.declared.journal.Fate.{Fate}
-use Rattle.scp_theorem.specs.Books.{books_of}
-use Rattle.scp_theorem.specs.Headline.{Books, Headline, HeadlineWithState}
+use Rattle.scp_workers.specs.scp_driver.specs.Driver.{Says}
+use Rattle.scp_workers.specs.scp_types.specs.declared.names.NodeId.{NodeId}
+use Rattle.scp_workers.specs.scp_quorum.specs.QuorumTree.{QuorumTree}
+use Rattle.scp_workers.specs.scp_wire.specs.declared.carried.Carried.{Carried}
+use Rattle.scp_workers.specs.scp_ledger.specs.declared.journal.Decision.{Decision}
+use Rattle.scp_workers.specs.scp_ledger.specs.declared.journal.Fate.{Fate}
+use Rattle.scp_workers.specs.scp_theorem.specs.Books.{books_of}
+use Rattle.scp_workers.specs.scp_theorem.specs.Headline.{Books, Headline, HeadlineWithState}
 use Rattle.scp_gather.specs.declared.gathering.NodeReport.{NodeReport}
 use Rattle.scp_gather.specs.Gathered.{account_gathered}
 use Rattle.scp_gather.specs.Left.{Left}

@@ -1,16 +1,16 @@
 -- What the threads of a node left, if its values are operation lists (this project's profile).
 use Rattle.std.specs.Prelude.{List}
 use Rattle.std.specs.FinMap as finite
-use Rattle.scp_types.specs.declared.names.NodeId.{NodeId}
-use Rattle.scp_quorum.specs.QuorumTree.{QuorumTree}
-use Rattle.scp_driver.specs.declared.kv_driver.KvDriver.{KvDriver}
-use Rattle.scp_driver.specs.Kv.{kv_says}
-use Rattle.scp_kv.specs.Map.{KvMap}
-use Rattle.scp_kv.specs.State.{after_value}
-use Rattle.scp_wire.specs.declared.carried.Carried.{Carried}
-use Rattle.scp_ledger.specs.declared.journal.Decision.{Decision}
-use Rattle.scp_ledger.specs.declared.journal.Fate.{Fate}
-use Rattle.scp_ledger.specs.declared.took.CommandFate.{CommandFate}
+use Rattle.scp_workers.specs.scp_types.specs.declared.names.NodeId.{NodeId}
+use Rattle.scp_workers.specs.scp_quorum.specs.QuorumTree.{QuorumTree}
+use Rattle.scp_workers.specs.scp_driver.specs.declared.kv_driver.KvDriver.{KvDriver}
+use Rattle.scp_workers.specs.scp_driver.specs.Kv.{kv_says}
+use Rattle.scp_workers.specs.scp_kv.specs.Map.{KvMap}
+use Rattle.scp_workers.specs.scp_kv.specs.State.{after_value}
+use Rattle.scp_workers.specs.scp_wire.specs.declared.carried.Carried.{Carried}
+use Rattle.scp_workers.specs.scp_ledger.specs.declared.journal.Decision.{Decision}
+use Rattle.scp_workers.specs.scp_ledger.specs.declared.journal.Fate.{Fate}
+use Rattle.scp_workers.specs.scp_ledger.specs.declared.took.CommandFate.{CommandFate}
 use Rattle.scp_workers.specs.Slot as slot
 use Rattle.scp_gather.specs.declared.gathering.NodeReport as gathering
 use Rattle.scp_gather.specs.Left as left

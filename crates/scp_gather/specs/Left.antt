@@ -1,9 +1,9 @@
 -- What the threads of a node left.
 use Rattle.std.specs.Prelude.{ℕ, List, [], Option, Some, None, slice_get}
-use Rattle.scp_wire.specs.declared.link.LinkItem.{LinkItem}
-use Rattle.scp_wire.specs.declared.link.Inbound.{Inbound}
-use Rattle.scp_ends.specs.Ends.{Sender}
-use Rattle.scp_ends.specs.Links.{LinkEnd}
+use Rattle.scp_workers.specs.scp_wire.specs.declared.link.LinkItem.{LinkItem}
+use Rattle.scp_workers.specs.scp_wire.specs.declared.link.Inbound.{Inbound}
+use Rattle.scp_workers.specs.scp_ends.specs.Ends.{Sender}
+use Rattle.scp_workers.specs.scp_ends.specs.Links.{LinkEnd}
 use Rattle.scp_workers.specs.Reading.{ReaderEnd}
 use Rattle.scp_workers.specs.Pending.{PendEnd}
 use Rattle.scp_workers.specs.Slot.{SlotEnd}

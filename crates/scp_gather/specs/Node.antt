@@ -1,20 +1,20 @@
 -- What was left belongs to the channels of one node, and each worker ended well.
 use Rattle.std.specs.Prelude.{◌≡◌, ℕ, ◌+◌, List, length, Some, IfSome, slice_get}
-use Rattle.scp_driver.specs.Driver.{Says}
-use Rattle.scp_types.specs.declared.names.NodeId.{NodeId}
-use Rattle.scp_quorum.specs.QuorumTree.{QuorumTree}
-use Rattle.scp_wire.specs.declared.link.Inbound.{Inbound}
-use Rattle.scp_pending.specs.declared.ready.Ready.{Ready}
-use Rattle.scp_ledger.specs.declared.took.Onward.{Onward}
-use Rattle.scp_ends.specs.Commands.{AreCommands}
-use Rattle.scp_ends.specs.Ends.{Sender, Receiver, IsQueued}
-use Rattle.scp_ends.specs.Links.{LinkEnd, IsLink}
+use Rattle.scp_workers.specs.scp_driver.specs.Driver.{Says}
+use Rattle.scp_workers.specs.scp_types.specs.declared.names.NodeId.{NodeId}
+use Rattle.scp_workers.specs.scp_quorum.specs.QuorumTree.{QuorumTree}
+use Rattle.scp_workers.specs.scp_wire.specs.declared.link.Inbound.{Inbound}
+use Rattle.scp_workers.specs.scp_pending.specs.declared.ready.Ready.{Ready}
+use Rattle.scp_workers.specs.scp_ledger.specs.declared.took.Onward.{Onward}
+use Rattle.scp_workers.specs.scp_ends.specs.Commands.{AreCommands}
+use Rattle.scp_workers.specs.scp_ends.specs.Ends.{Sender, Receiver, IsQueued}
+use Rattle.scp_workers.specs.scp_ends.specs.Links.{LinkEnd, IsLink}
 use Rattle.scp_workers.specs.Reading.{ReaderEnd, HasReadAll}
 use Rattle.scp_workers.specs.Pending.{HasPendedAll, IsFor as PendsFor}
 use Rattle.scp_workers.specs.Slot.{HasJournaledAll, IsFor as JournalsFor}
 use Rattle.scp_workers.specs.Apply.{HasAppliedAll}
 use Rattle.scp_gather.specs.Left.{Left}
-use Rattle.scp_pending.specs.Peers.{AreApart}
+use Rattle.scp_workers.specs.scp_pending.specs.Peers.{AreApart}
 
 -- ---- names, places and numbers
 

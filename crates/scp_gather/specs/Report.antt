@@ -3,22 +3,22 @@ use Rattle.std.specs.Prelude.{◌≡◌, ℕ, Bool, false, not, List, length, ma
 use Rattle.std.specs.Global.{Vec}
 use Rattle.std.specs.List.{list_any}
 use Rattle.std.specs.List.Sorted.{IsStrictlySortedBy}
-use Rattle.scp_driver.specs.Driver.{Says}
-use Rattle.scp_types.specs.declared.fault.Stage.{Stage}
-use Rattle.scp_types.specs.declared.fault.Stage.TheVariants.{Reader, Pend, Slot, Apply}
-use Rattle.scp_types.specs.declared.names.NodeId.{NodeId}
-use Rattle.scp_quorum.specs.QuorumTree.{QuorumTree}
-use Rattle.scp_wire.specs.declared.carried.Carried.{Carried}
-use Rattle.scp_wire.specs.declared.link.Inbound.{Inbound}
-use Rattle.scp_wire.specs.declared.link.LinkItem.{LinkItem}
-use Rattle.scp_pending.specs.Endings.{commands_in, commands_of}
-use Rattle.scp_pending.specs.Messages.{AreParked, message_cmp}
-use Rattle.scp_ledger.specs.declared.journal.Decision.{Decision}
-use Rattle.scp_ledger.specs.declared.journal.Fate.{Fate}
-use Rattle.scp_ledger.specs.declared.took.CommandFate.{CommandFate}
-use Rattle.scp_ends.specs.Ends.{Line, Sender}
-use Rattle.scp_ends.specs.Links.{LinkEnd}
-use Rattle.scp_ends.specs.Order.{values}
+use Rattle.scp_workers.specs.scp_driver.specs.Driver.{Says}
+use Rattle.scp_workers.specs.scp_types.specs.declared.fault.Stage.{Stage}
+use Rattle.scp_workers.specs.scp_types.specs.declared.fault.Stage.TheVariants.{Reader, Pend, Slot, Apply}
+use Rattle.scp_workers.specs.scp_types.specs.declared.names.NodeId.{NodeId}
+use Rattle.scp_workers.specs.scp_quorum.specs.QuorumTree.{QuorumTree}
+use Rattle.scp_workers.specs.scp_wire.specs.declared.carried.Carried.{Carried}
+use Rattle.scp_workers.specs.scp_wire.specs.declared.link.Inbound.{Inbound}
+use Rattle.scp_workers.specs.scp_wire.specs.declared.link.LinkItem.{LinkItem}
+use Rattle.scp_workers.specs.scp_pending.specs.Endings.{commands_in, commands_of}
+use Rattle.scp_workers.specs.scp_pending.specs.Messages.{AreParked, message_cmp}
+use Rattle.scp_workers.specs.scp_ledger.specs.declared.journal.Decision.{Decision}
+use Rattle.scp_workers.specs.scp_ledger.specs.declared.journal.Fate.{Fate}
+use Rattle.scp_workers.specs.scp_ledger.specs.declared.took.CommandFate.{CommandFate}
+use Rattle.scp_workers.specs.scp_ends.specs.Ends.{Line, Sender}
+use Rattle.scp_workers.specs.scp_ends.specs.Links.{LinkEnd}
+use Rattle.scp_workers.specs.scp_ends.specs.Order.{values}
 use Rattle.scp_workers.specs.Working.{End}
 use Rattle.scp_workers.specs.Reading.{ReaderEnd}
 use Rattle.scp_workers.specs.Slot.{HaveFates}

@@ -1,11 +1,11 @@
 -- What the stages of a node that has ended put into the outboxes of its links.
 use Rattle.std.specs.Prelude.{List}
-use Rattle.scp_driver.specs.Driver.{Says}
-use Rattle.scp_types.specs.declared.names.NodeId.{NodeId}
-use Rattle.scp_quorum.specs.QuorumTree.{QuorumTree}
-use Rattle.scp_ledger.specs.declared.took.Outgoing.{Outgoing}
-use Rattle.scp_theorem.specs.Grounds.{Grounds}
-use Rattle.scp_theorem.specs.Laws.{grounds_in, AreHandedOut}
+use Rattle.scp_workers.specs.scp_driver.specs.Driver.{Says}
+use Rattle.scp_workers.specs.scp_types.specs.declared.names.NodeId.{NodeId}
+use Rattle.scp_workers.specs.scp_quorum.specs.QuorumTree.{QuorumTree}
+use Rattle.scp_workers.specs.scp_ledger.specs.declared.took.Outgoing.{Outgoing}
+use Rattle.scp_workers.specs.scp_theorem.specs.Grounds.{Grounds}
+use Rattle.scp_workers.specs.scp_theorem.specs.Laws.{grounds_in, AreHandedOut}
 use Rattle.scp_workers.specs.Working.{HavePut}
 use Rattle.scp_gather.specs.Gathered.{account_gathered}
 use Rattle.scp_gather.specs.Left.{Left}

@@ -1,14 +1,14 @@
 -- What went over a link that a courier carries.
 use Rattle.std.specs.Prelude.{ℕ, List, [], ◌∷◌, flat_map}
-use Rattle.scp_wire.specs.declared.link.LinkItem.{LinkItem}
-use Rattle.scp_wire.specs.declared.link.LinkItem.TheVariants as item
-use Rattle.scp_wire.specs.declared.message.Message.{Message}
-use Rattle.scp_outbox.specs.declared.mark.Out.{Out}
-use Rattle.scp_shared_outbox.specs.Table.{CameOut}
-use Rattle.scp_ends.specs.Links.{LinkEnd}
+use Rattle.scp_workers.specs.scp_wire.specs.declared.link.LinkItem.{LinkItem}
+use Rattle.scp_workers.specs.scp_wire.specs.declared.link.LinkItem.TheVariants as item
+use Rattle.scp_workers.specs.scp_wire.specs.declared.message.Message.{Message}
+use Rattle.scp_workers.specs.scp_outbox.specs.declared.mark.Out.{Out}
+use Rattle.scp_workers.specs.scp_shared_outbox.specs.Table.{CameOut}
+use Rattle.scp_workers.specs.scp_ends.specs.Links.{LinkEnd}
 use Rattle.scp_workers.specs.Carrying.{HasCarried}
-use Rattle.scp_theorem.specs.Grounds.{Grounds, IsSentOut}
-use Rattle.scp_theorem.specs.Laws.{MayGo}
+use Rattle.scp_workers.specs.scp_theorem.specs.Grounds.{Grounds, IsSentOut}
+use Rattle.scp_workers.specs.scp_theorem.specs.Laws.{MayGo}
 
 -- the bytes that an item of a link carries
 abbrev pub bytes_on : LinkItem → List (List ℕ)

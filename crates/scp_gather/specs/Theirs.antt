@@ -1,16 +1,16 @@
 -- What is read of a link over which a node sent only what it may send.
 use Rattle.std.specs.Prelude.{◌≢◌, ℕ, List, [], ◌∷◌, ◌++◌, All, flat_map}
-use Rattle.scp_wire.specs.declared.link.Cause.TheVariants.{Malformed}
-use Rattle.scp_wire.specs.declared.link.Inbound.{Inbound}
-use Rattle.scp_wire.specs.declared.link.Inbound.TheVariants as inbound
-use Rattle.scp_wire.specs.declared.link.LinkItem.{LinkItem}
-use Rattle.scp_wire.specs.declared.message.Message.{Message}
-use Rattle.scp_wire.specs.declared.message.Message.TheVariants as message
-use Rattle.scp_wire.specs.declared.side.SideMessage.{SideMessage}
-use Rattle.scp_wire.specs.declared.side.SideMessage.TheVariants as side
-use Rattle.scp_wire.specs.LinkReading.{unread, readings}
-use Rattle.scp_outbox.specs.Sent.{AreNewer}
-use Rattle.scp_theorem.specs.Grounds.{Grounds, MaySend, IsSentOut}
+use Rattle.scp_workers.specs.scp_wire.specs.declared.link.Cause.TheVariants.{Malformed}
+use Rattle.scp_workers.specs.scp_wire.specs.declared.link.Inbound.{Inbound}
+use Rattle.scp_workers.specs.scp_wire.specs.declared.link.Inbound.TheVariants as inbound
+use Rattle.scp_workers.specs.scp_wire.specs.declared.link.LinkItem.{LinkItem}
+use Rattle.scp_workers.specs.scp_wire.specs.declared.message.Message.{Message}
+use Rattle.scp_workers.specs.scp_wire.specs.declared.message.Message.TheVariants as message
+use Rattle.scp_workers.specs.scp_wire.specs.declared.side.SideMessage.{SideMessage}
+use Rattle.scp_workers.specs.scp_wire.specs.declared.side.SideMessage.TheVariants as side
+use Rattle.scp_workers.specs.scp_wire.specs.LinkReading.{unread, readings}
+use Rattle.scp_workers.specs.scp_outbox.specs.Sent.{AreNewer}
+use Rattle.scp_workers.specs.scp_theorem.specs.Grounds.{Grounds, MaySend, IsSentOut}
 use Rattle.scp_gather.specs.Sent.{bytes_among}
 
 -- a message without a number, as the link message that it is

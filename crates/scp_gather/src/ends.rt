@@ -3,9 +3,9 @@ ghost use Rattle.std.specs.Prelude.{◌≡◌};
 ghost use Rattle.std.specs.List.{list_any};
 ghost use Rattle.scp_gather.specs.Report.{first_failed as first_failed_of, first_so, has_failed as failed};
 
-use scp_driver::{Application, KvDriver};
-use scp_ends::{LinkDone, LocalDone};
-use scp_types::Stage;
+use scp_workers::below::driver::{Application, KvDriver};
+use scp_workers::below::ends::{LinkDone, LocalDone};
+use scp_workers::below::types::Stage;
 use scp_workers::{ApplyEnded, PendEnded, ReaderEnded, SlotEnded};
 use std::marker::Model;
 
@@ -23,9 +23,9 @@ pub struct Ends<A: Application + Drop + Copy = KvDriver> {
 
 impl<A: Application + Drop + Copy> Model for Ends<A> {
     ghost use Rattle.std.specs.Coded.{codes};
-    ghost use Rattle.scp_xdr.specs.inside.TreeModel.{coded_row};
-    ghost use Rattle.scp_quorum.specs.inside.QuorumTree.{coded_level};
-    ghost use Rattle.scp_ledger.specs.inside.Coding.{machine_code};
+    ghost use Rattle.scp_workers.specs.scp_xdr.specs.inside.TreeModel.{coded_row};
+    ghost use Rattle.scp_workers.specs.scp_quorum.specs.inside.QuorumTree.{coded_level};
+    ghost use Rattle.scp_workers.specs.scp_ledger.specs.inside.Coding.{machine_code};
     ghost use Rattle.scp_gather.specs.Left.{Left};
 
     ghost Value = { Left A };

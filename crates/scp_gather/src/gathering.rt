@@ -2,16 +2,16 @@
 ghost use Rattle.std.specs.Prelude.{◌≡◌, ◌↔◌, ◌⊎◌, ℕ, List, None, Some, false, true, IfOk, IfErr, IsErrOf, IsOkUnless, OnOk, length, map, slice_get};
 ghost use Rattle.std.specs.List.{AllByRecursion};
 ghost use Rattle.std.specs.List.Sorted.{IsStrictlySortedBy};
-ghost use Rattle.scp_types.specs.declared.fault.Stage.{Stage};
-ghost use Rattle.scp_types.specs.declared.names.NodeId.{NodeId};
-ghost use Rattle.scp_quorum.specs.QuorumTree.{QuorumTree};
-ghost use Rattle.scp_wire.specs.declared.link.Inbound.{Inbound};
-ghost use Rattle.scp_wire.specs.Shape.{HasShape};
-ghost use Rattle.scp_pending.specs.declared.ready.Ready.{Ready};
-ghost use Rattle.scp_pending.specs.Messages.{AreParked, message_cmp};
-ghost use Rattle.scp_pending.specs.Pends.{Pends};
-ghost use Rattle.scp_ends.specs.Links.{LinkEnd};
-ghost use Rattle.scp_apply.specs.Applied.{made_of};
+ghost use Rattle.scp_workers.specs.scp_types.specs.declared.fault.Stage.{Stage};
+ghost use Rattle.scp_workers.specs.scp_types.specs.declared.names.NodeId.{NodeId};
+ghost use Rattle.scp_workers.specs.scp_quorum.specs.QuorumTree.{QuorumTree};
+ghost use Rattle.scp_workers.specs.scp_wire.specs.declared.link.Inbound.{Inbound};
+ghost use Rattle.scp_workers.specs.scp_wire.specs.Shape.{HasShape};
+ghost use Rattle.scp_workers.specs.scp_pending.specs.declared.ready.Ready.{Ready};
+ghost use Rattle.scp_workers.specs.scp_pending.specs.Messages.{AreParked, message_cmp};
+ghost use Rattle.scp_workers.specs.scp_pending.specs.Pends.{Pends};
+ghost use Rattle.scp_workers.specs.scp_ends.specs.Links.{LinkEnd};
+ghost use Rattle.scp_workers.specs.scp_apply.specs.Applied.{made_of};
 ghost use Rattle.scp_workers.specs.Reading.{ReaderEnd};
 ghost use Rattle.scp_gather.specs.Node.{IsNode, IsReadOut, EndWell};
 ghost use Rattle.scp_gather.specs.Headline.{IsReportHeadlined};
@@ -21,14 +21,14 @@ ghost use Rattle.scp_gather.specs.inside.Kept.{kept_by};
 
 use crate::ends::Ends;
 use crate::laws::{what_ends_well_is_gathered, what_is_reported_keeps_the_headline};
-use scp_apply::Applier;
-use scp_driver::{Application, KvDriver};
-use scp_ends::{InboxRx, LinkDone};
-use scp_ledger::{CommandFate, Fate, Ledger, SharedDecision};
-use scp_pending::{Pending, each_command_passes_once};
-use scp_shared_outbox::Outlets;
-use scp_types::Fault;
-use scp_wire::{Carried, LinkItem};
+use scp_workers::below::apply::Applier;
+use scp_workers::below::driver::{Application, KvDriver};
+use scp_workers::below::ends::{InboxRx, LinkDone};
+use scp_workers::below::ledger::{CommandFate, Fate, Ledger, SharedDecision};
+use scp_workers::below::pending::{Pending, each_command_passes_once};
+use scp_workers::below::shared_outbox::Outlets;
+use scp_workers::below::types::Fault;
+use scp_workers::below::wire::{Carried, LinkItem};
 use scp_workers::{ReaderEnded, ReadingStage, SlotStage};
 
 /// What became of all that was sent to a node, and what it did.
@@ -160,7 +160,7 @@ fn told<A: Application + Drop + Copy>(
     ensures journal { IfOk result (λ r. r.journal.items ≡ ledger.journal) }
     ensures parked { IfOk result (λ r. (me : NodeId) → (peers : List NodeId) → (taken : List Inbound) → (given : List Ready) → Pends me peers taken given pending → AreParked pending r.parked.items) }
     ensures ascending { IfOk result (λ r. (me : NodeId) → (peers : List NodeId) → (taken : List Inbound) → (given : List Ready) → Pends me peers taken given pending → HasShape me peers taken → IsStrictlySortedBy message_cmp r.parked.items) }
-    ensures applied { IfOk result (λ r. (r.applied.items ≡ applier.applied) × (r.state ≡ made_of A.first A.after applier.applied)) }
+    ensures applied { IfOk result (λ r. (r.applied.items ≡ applier.applied) × (r.state ≡ made_of (A.begins applier.base) A.after applier.applied)) }
     ensures commands { IfOk result (λ r. r.commands.items ≡ commands.items) }
     ensures came { IfOk result (λ r. r.came.items ≡ came.items) }
     ensures only_memory { IsOkUnless result Fault.NoMemory }

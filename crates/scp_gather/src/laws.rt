@@ -3,12 +3,14 @@ ghost use Rattle.scp_gather.specs.Count.{HoldsAtMost};
 ghost use Rattle.scp_gather.specs.Gathered.{WhatEndsWellIsGathered};
 ghost use Rattle.scp_gather.specs.Headline.{ReportsKeepHeadline};
 
-use scp_driver::Driver;
-use scp_pending::{
+use scp_workers::below::driver::Driver;
+use scp_workers::below::pending::{
     no_message_is_lost_or_overtaken, what_has_nothing_ready_is_settled, what_is_parked_came,
 };
-use scp_theorem::{what_keeps_the_ledger_keeps_the_headline, what_ran_keeps_the_ledger};
-use scp_wire::{
+use scp_workers::below::theorem::{
+    what_keeps_the_ledger_keeps_the_headline, what_ran_keeps_the_ledger,
+};
+use scp_workers::below::wire::{
     each_number_names_its_message, parts_say_what_the_whole_says, reading_of_is_what_is_spelt,
     what_is_read_is_what_was_sent, what_is_read_keeps_the_shape,
 };

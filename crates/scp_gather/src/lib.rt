@@ -19,6 +19,7 @@
 //! Not claimed: that a worker ends.
 #![tactic(auto)]
 
+pub mod below;
 mod ends;
 mod gathering;
 mod laws;

@@ -2,8 +2,8 @@
 ghost use Rattle.scp_gather.specs.Sent.{WhatIsCarriedIsSentOut};
 ghost use Rattle.scp_gather.specs.Theirs.{WhatCameFirstIsTheirs, WhatIsReadIsTheirs};
 
-use scp_shared_outbox::{statements_are_given_in_order, what_is_given_was_put};
-use scp_wire::what_is_spelt_is_read;
+use scp_workers::below::shared_outbox::{statements_are_given_in_order, what_is_given_was_put};
+use scp_workers::below::wire::what_is_spelt_is_read;
 
 /// What a courier carried of what came out of an outbox may be sent, and each statement is newer than those of its slot and kind before it.
 pub fn what_is_carried_is_sent_out()

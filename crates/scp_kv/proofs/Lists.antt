@@ -4,7 +4,7 @@ use Rattle.std.proofs.lemmas.List.{get_or_past}
 use Rattle.std.proofs.lemmas.Bool.{le-leb, lt-leb, cases_lt}
 use Rattle.std.specs.Prelude.{IsTrue, All, ◌↔◌, nat_le}
 use Rattle.std.specs.Result.{result_ok}
-use Rattle.scp_types.specs.declared.fault.Fault.{Fault}
+use Rattle.scp_xdr.specs.scp_types.specs.declared.fault.Fault.{Fault}
 use Rattle.scp_xdr.specs.Kind.{Values, Spells}
 use Rattle.scp_xdr.specs.Reading.{reading_whole}
 use Rattle.scp_xdr.proofs.Parts.{IsBytes}

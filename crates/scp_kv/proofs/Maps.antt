@@ -66,11 +66,13 @@ rises (e ∷ es) h = both (below_all (slice_cmp nat_cmp) e.0 es) (is_sorted (sli
     both true b p q = q
     both false b p q = p
 
-pub entries-seen : (es : List (List ℕ × List ℕ)) → IsStrictlySortedBy (slice_cmp nat_cmp) (keys_of es) → map.entries (seen es) ≡ es
-entries-seen es ordered =
-    let h = rises es ordered in
+pub entries-sorted : (es : List (List ℕ × List ℕ)) → T (is_sorted (slice_cmp nat_cmp) es) → map.entries (seen es) ≡ es
+entries-sorted es h =
     let same : seen es ≡ from_sorted es = alike (seen es) (from_sorted es) (λ q. get-from_entries nat_list_cmp_total es q ∙ sym (get-from_sorted (slice_cmp nat_cmp) es q h)) in
     ap map.entries same ∙ entries-from_sorted (slice_cmp nat_cmp) es h
+
+pub entries-seen : (es : List (List ℕ × List ℕ)) → IsStrictlySortedBy (slice_cmp nat_cmp) (keys_of es) → map.entries (seen es) ≡ es
+entries-seen es ordered = entries-sorted es (rises es ordered)
 
 pub len-seen : (es : List (List ℕ × List ℕ)) → IsStrictlySortedBy (slice_cmp nat_cmp) (keys_of es) → map.len (seen es) ≡ length es
 len-seen es ordered = len-entries (seen es) ∙ ap length (entries-seen es ordered)

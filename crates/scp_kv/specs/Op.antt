@@ -2,7 +2,7 @@
 use Rattle.std.specs.Prelude.{ℕ, ◌≤◌, nat_le, if◌then◌else◌, List, length, map, Option, None}
 use Rattle.std.proofs.Common.{inl, inr}
 use Rattle.std.specs.Result.{result_ok}
-use Rattle.scp_types.specs.declared.limits.TheConstants.{VALUE_LIMIT}
+use Rattle.scp_xdr.specs.scp_types.specs.declared.limits.TheConstants.{VALUE_LIMIT}
 use Rattle.scp_kv.specs.declared.ops.TheConstants.{COUNT_LIMIT, KEY_LIMIT, ENTRY_LIMIT}
 use Rattle.scp_xdr.specs.Kind.{Kind, opaque, array, both, union, no_arm, arm, Values, Spells}
 use Rattle.scp_xdr.specs.Reading.{reading_whole}

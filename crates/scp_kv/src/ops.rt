@@ -4,7 +4,7 @@ ghost use Rattle.scp_xdr.specs.Reading.{reading};
 ghost use Rattle.scp_xdr.specs.Words.{Decodes};
 ghost use Rattle.scp_kv.specs.Op.{op_kind, ops_kind, op_value, ops_value, ops_in, IsOps};
 
-use scp_types::{Fault, VALUE_LIMIT, Value};
+use scp_xdr::below::types::{Fault, VALUE_LIMIT, Value};
 use scp_xdr::{
     Reader, Writer, Xdr, array_fits, decode, is_spelling, pass_array, read_array, spend_array,
     spend_opaque, spend_u32, write_array,
@@ -18,10 +18,10 @@ const LIST_LIMIT: usize = VALUE_LIMIT;
 const COUNT_LIMIT: u32 = 64;
 
 /// The most bytes of a key (this project's profile).
-const KEY_LIMIT: u32 = 64;
+pub const KEY_LIMIT: u32 = 64;
 
 /// The most bytes of a value that is put at a key (this project's profile).
-const ENTRY_LIMIT: u32 = 256;
+pub const ENTRY_LIMIT: u32 = 256;
 
 /// One change of the state. In an operation list a key has at most 64 bytes, and a value at most 256. Its XDR is a
 /// union: 0, the key and the value; or 1 and the key.
@@ -38,7 +38,7 @@ pub enum Op {
 struct OpList(Vec<Op>);
 
 /// At most `max` bytes, after their length. A refusal leaves the reader anywhere.
-fn read_bytes(alloc: Global, max: u32, reader: &mut Reader<'_>) -> Result<Value, Fault>
+pub fn read_bytes(alloc: Global, max: u32, reader: &mut Reader<'_>) -> Result<Value, Fault>
     ensures { Decodes (λ v. v) reader.new result (reading (opaque max) reader.old) }
 {
     let bytes = reader.opaque(max)?;

@@ -9,7 +9,7 @@ ghost use Rattle.scp_kv.specs.Op.{ops_kind, op_value, IsOps};
 ghost use Rattle.scp_kv.specs.State.{after_op, after_value, IsAfterPart, PutsNewKey};
 
 use crate::ops::{Op, ops_of};
-use scp_types::{Fault, Value};
+use scp_xdr::below::types::{Fault, Value};
 use std::alloc::Global;
 use std::collections::BTreeMap;
 use std::collections::btree_map::Iter;

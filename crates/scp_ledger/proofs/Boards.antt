@@ -3,14 +3,14 @@ use Rattle.std.proofs.Common.{◌≡◌, ℕ, Bool, true, false, cond, List, ref
 use Rattle.std.specs.Prelude.{Option, Some, None, ◌&&◌, IsSome, if◌then◌else◌}
 use Rattle.std.specs.Option.{option_map}
 use Rattle.std.specs.BTreeMap.{is_at}
-use Rattle.scp_types.specs.declared.names.NodeId.{NodeId}
-use Rattle.scp_quorum.specs.NodeSet.{node_cmp}
-use Rattle.scp_driver.specs.declared.driver.Level.{Level}
-use Rattle.scp_envelope.specs.declared.statement.Envelope.{Envelope as Enveloped}
-use Rattle.scp_envelope.specs.declared.statement.Statement.{Statement}
-use Rattle.scp_vote.specs.Board.{kind_of_pledges, KeepsOwn}
-use Rattle.scp_vote.specs.declared.claim.StatementKind.{StatementKind}
-use Rattle.scp_vote.specs.declared.claim.StatementKind.TheVariants.{Nomination, Balloting}
+use Rattle.scp_slot.specs.scp_types.specs.declared.names.NodeId.{NodeId}
+use Rattle.scp_slot.specs.scp_quorum.specs.NodeSet.{node_cmp}
+use Rattle.scp_slot.specs.scp_driver.specs.declared.driver.Level.{Level}
+use Rattle.scp_slot.specs.scp_envelope.specs.declared.statement.Envelope.{Envelope as Enveloped}
+use Rattle.scp_slot.specs.scp_envelope.specs.declared.statement.Statement.{Statement}
+use Rattle.scp_slot.specs.scp_vote.specs.Board.{kind_of_pledges, KeepsOwn}
+use Rattle.scp_slot.specs.scp_vote.specs.declared.claim.StatementKind.{StatementKind}
+use Rattle.scp_slot.specs.scp_vote.specs.declared.claim.StatementKind.TheVariants.{Nomination, Balloting}
 use Rattle.scp_slot.specs.scp_ballot.specs.Balloting as ballot
 use Rattle.scp_slot.specs.declared.newest.Heard.{Heard as Kept}
 use Rattle.scp_slot.specs.declared.output.SlotInput.{SlotInput}
@@ -19,7 +19,7 @@ use Rattle.scp_slot.specs.declared.output.SlotOutput.{SlotOutput}
 use Rattle.scp_slot.specs.Slot.{SlotView}
 use Rattle.scp_slot.specs.Newest.{Puts}
 use Rattle.scp_slot.specs.Judged.{IsBehind}
-use Rattle.scp_quorum.specs.SharedSet.{SharedSet}
+use Rattle.scp_slot.specs.scp_quorum.specs.SharedSet.{SharedSet}
 use Rattle.scp_slot.specs.Takes as slot
 use Rattle.scp_ledger.specs.declared.journal.Verdict.{Verdict}
 use Rattle.scp_ledger.specs.declared.journal.Verdict.TheVariants.{Fresh}

@@ -4,18 +4,18 @@ use Rattle.std.specs.Prelude.{Option, Some, None, IsSomeAnd}
 use Rattle.std.specs.Option.{option_map}
 use Rattle.std.specs.BTreeMap.{is_at}
 use Rattle.std.specs.BTreeSet as tree_set
-use Rattle.scp_types.specs.declared.names.NodeId.{NodeId}
-use Rattle.scp_quorum.specs.NodeSet.{node_cmp, is_in}
-use Rattle.scp_quorum.specs.QuorumTree.{QuorumTree}
-use Rattle.scp_quorum.specs.QuorumKind.{set_hash}
-use Rattle.scp_quorum.specs.Satisfies.{Satisfies}
-use Rattle.scp_envelope.specs.Claims.{AcceptsCommit}
-use Rattle.scp_envelope.specs.declared.statement.Pledges.{Pledges}
-use Rattle.scp_envelope.specs.declared.statement.Pledges.TheVariants.{Prepare, Confirm, Externalize, Nominate}
-use Rattle.scp_vote.specs.Board.{Seen, KeepsOwn, counted_of_other}
-use Rattle.scp_vote.specs.Claims.{AcceptsCommits}
-use Rattle.scp_vote.specs.declared.claim.StatementKind.TheVariants.{Balloting}
-use Rattle.scp_vote.proofs.Chain.{same_at, at_itself}
+use Rattle.scp_slot.specs.scp_types.specs.declared.names.NodeId.{NodeId}
+use Rattle.scp_slot.specs.scp_quorum.specs.NodeSet.{node_cmp, is_in}
+use Rattle.scp_slot.specs.scp_quorum.specs.QuorumTree.{QuorumTree}
+use Rattle.scp_slot.specs.scp_quorum.specs.QuorumKind.{set_hash}
+use Rattle.scp_slot.specs.scp_quorum.specs.Satisfies.{Satisfies}
+use Rattle.scp_slot.specs.scp_envelope.specs.Claims.{AcceptsCommit}
+use Rattle.scp_slot.specs.scp_envelope.specs.declared.statement.Pledges.{Pledges}
+use Rattle.scp_slot.specs.scp_envelope.specs.declared.statement.Pledges.TheVariants.{Prepare, Confirm, Externalize, Nominate}
+use Rattle.scp_slot.specs.scp_vote.specs.Board.{Seen, KeepsOwn, counted_of_other}
+use Rattle.scp_slot.specs.scp_vote.specs.Claims.{AcceptsCommits}
+use Rattle.scp_slot.specs.scp_vote.specs.declared.claim.StatementKind.TheVariants.{Balloting}
+use Rattle.scp_slot.specs.scp_vote.proofs.Chain.{same_at, at_itself}
 use Rattle.scp_slot.specs.scp_ballot.specs.declared.balloted.Certified.{Certified}
 use Rattle.scp_slot.specs.scp_ballot.specs.Balloting as ballot
 use Rattle.scp_slot.specs.declared.newest.Heard.{Heard as Kept}

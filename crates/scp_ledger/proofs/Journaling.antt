@@ -7,17 +7,17 @@ use Rattle.std.proofs.lemmas.List.Elements.{Contains-append_left, Contains-appen
 use Rattle.std.proofs.lemmas.Grind.{flat_map-append}
 use Rattle.std.specs.Cmp.{tied_then}
 use Rattle.std.specs.Ordering.{nat_cmp}
-use Rattle.scp_types.specs.declared.names.ConnId.{ConnId}
-use Rattle.scp_types.specs.declared.names.NodeId.{NodeId}
-use Rattle.scp_types.specs.declared.names.Seq.{Seq}
-use Rattle.scp_types.specs.declared.names.Slot.{Slot}
-use Rattle.scp_wire.specs.Boxed.{Boxed}
-use Rattle.scp_wire.specs.declared.link.Cause.{Cause}
+use Rattle.scp_slot.specs.scp_types.specs.declared.names.ConnId.{ConnId}
+use Rattle.scp_slot.specs.scp_types.specs.declared.names.NodeId.{NodeId}
+use Rattle.scp_slot.specs.scp_types.specs.declared.names.Seq.{Seq}
+use Rattle.scp_slot.specs.scp_types.specs.declared.names.Slot.{Slot}
+use Rattle.scp_pending.specs.scp_wire.specs.Boxed.{Boxed}
+use Rattle.scp_pending.specs.scp_wire.specs.declared.link.Cause.{Cause}
 use Rattle.scp_pending.specs.declared.ready.DropCause.{DropCause}
-use Rattle.scp_wire.specs.declared.message.Message.{Message}
-use Rattle.scp_wire.specs.declared.message.Message.TheVariants.{Envelope, GetSet, Set, NoSet, GetRecord, Record, Records}
-use Rattle.scp_wire.specs.declared.link.Command.{Command}
-use Rattle.scp_wire.specs.declared.link.Command.TheVariants.{Propose, Round, Timer, Tick, Ask}
+use Rattle.scp_pending.specs.scp_wire.specs.declared.message.Message.{Message}
+use Rattle.scp_pending.specs.scp_wire.specs.declared.message.Message.TheVariants.{Envelope, GetSet, Set, NoSet, GetRecord, Record, Records}
+use Rattle.scp_pending.specs.scp_wire.specs.declared.link.Command.{Command}
+use Rattle.scp_pending.specs.scp_wire.specs.declared.link.Command.TheVariants.{Propose, Round, Timer, Tick, Ask}
 use Rattle.scp_pending.specs.declared.ready.Ready.{Ready}
 use Rattle.scp_pending.specs.declared.ready.Ready.TheVariants as ready
 use Rattle.scp_ledger.specs.declared.journal.Decision.{Decision}
@@ -36,12 +36,12 @@ use Rattle.scp_ledger.specs.declared.journal.Verdict.{Verdict}
 use Rattle.scp_ledger.specs.declared.journal.Verdict.TheVariants.{OldSlot, FarSlot, Already, Unasked, Own, BadStatement, BadValue, Stale, Idle, Fresh, Forwarded, Decided as Deciding}
 use Rattle.scp_ledger.specs.Takes.{Takes, RunsAt, Passes, Decides, Forwards, Asks, Commands, TakesCommand, TakesMessage, decision_of, decided_onward}
 use Rattle.scp_ledger.proofs.Ran.{at_is}
-use Rattle.scp_driver.specs.declared.driver.Level.{Level}
+use Rattle.scp_slot.specs.scp_driver.specs.declared.driver.Level.{Level}
 use Rattle.scp_slot.specs.declared.output.SlotInput.{SlotInput}
 use Rattle.scp_slot.specs.declared.output.SlotInput.TheVariants as input
-use Rattle.scp_quorum.specs.SharedSet.{SharedSet}
+use Rattle.scp_slot.specs.scp_quorum.specs.SharedSet.{SharedSet}
 use Rattle.scp_pending.specs.Endings.{passed, commands_of}
-use Rattle.scp_quorum.specs.QuorumTree.{QuorumTree}
+use Rattle.scp_slot.specs.scp_quorum.specs.QuorumTree.{QuorumTree}
 use Rattle.scp_ledger.specs.Journal.{Heard, is_fresh, fresh_in}
 use Rattle.scp_ledger.specs.Onwards.{decision_on, decisions_on, request_on, requests_on, MaySend, KeepsWindow, WindowIsKept}
 use Rattle.scp_ledger.specs.Runs.{Taking, thing_of, onward_of, onwards_of, nothing_taken, Leads, was_fresh, heard_beside, freshly_heard, is_asking, freshly_asks, stood_by, IsJudged, AreJudged, verdict_in, verdict_by, IsRun}

@@ -9,18 +9,18 @@ use Rattle.std.proofs.lemmas.List.{append-nil}
 use Rattle.std.proofs.lemmas.List.Elements.{All-nil, All-cons, All-push, All-append, All-weaker, All-contains, All-contains_itself, All-get_or, Contains-append_left}
 use Rattle.std.proofs.lemmas.List.Folds.{list_any-append}
 use Rattle.std.proofs.lemmas.List.Quantifiers.{all_pairs_push}
-use Rattle.scp_types.specs.declared.limits.TheConstants.{WINDOW}
-use Rattle.scp_types.specs.declared.names.ConnId.{ConnId}
-use Rattle.scp_types.specs.declared.names.NodeId.{NodeId}
-use Rattle.scp_types.specs.declared.names.Slot.{Slot}
-use Rattle.scp_driver.specs.declared.driver.Level.{Level}
-use Rattle.scp_quorum.specs.NodeSet.{node_cmp}
-use Rattle.scp_quorum.specs.QuorumTree.{QuorumTree}
-use Rattle.scp_quorum.specs.QuorumKind.{set_hash}
-use Rattle.scp_quorum.specs.Satisfies.{Satisfies}
-use Rattle.scp_envelope.specs.Claims.{AcceptsCommit}
-use Rattle.scp_vote.specs.declared.claim.StatementKind.{StatementKind}
-use Rattle.scp_vote.specs.declared.claim.StatementKind.TheVariants.{Balloting}
+use Rattle.scp_slot.specs.scp_types.specs.declared.limits.TheConstants.{WINDOW}
+use Rattle.scp_slot.specs.scp_types.specs.declared.names.ConnId.{ConnId}
+use Rattle.scp_slot.specs.scp_types.specs.declared.names.NodeId.{NodeId}
+use Rattle.scp_slot.specs.scp_types.specs.declared.names.Slot.{Slot}
+use Rattle.scp_slot.specs.scp_driver.specs.declared.driver.Level.{Level}
+use Rattle.scp_slot.specs.scp_quorum.specs.NodeSet.{node_cmp}
+use Rattle.scp_slot.specs.scp_quorum.specs.QuorumTree.{QuorumTree}
+use Rattle.scp_slot.specs.scp_quorum.specs.QuorumKind.{set_hash}
+use Rattle.scp_slot.specs.scp_quorum.specs.Satisfies.{Satisfies}
+use Rattle.scp_slot.specs.scp_envelope.specs.Claims.{AcceptsCommit}
+use Rattle.scp_slot.specs.scp_vote.specs.declared.claim.StatementKind.{StatementKind}
+use Rattle.scp_slot.specs.scp_vote.specs.declared.claim.StatementKind.TheVariants.{Balloting}
 use Rattle.scp_slot.specs.scp_ballot.specs.declared.balloted.Certified.{Certified}
 use Rattle.scp_slot.specs.scp_ballot.specs.Balloting as ballot
 use Rattle.scp_slot.specs.declared.machine.SlotMachine.{SlotMachine}

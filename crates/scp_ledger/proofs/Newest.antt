@@ -3,8 +3,8 @@ use Rattle.std.proofs.Common.{◌≡◌, ℕ, Bool, true, false, cond, List, [],
 use Rattle.std.specs.Prelude.{Option, Some, None, filter, fold, option_to_list}
 use Rattle.std.proofs.lemmas.List.Elements.{filter-append}
 use Rattle.std.proofs.lemmas.List.{append-nil}
-use Rattle.scp_types.specs.declared.names.NodeId.{NodeId}
-use Rattle.scp_vote.specs.declared.claim.StatementKind.{StatementKind}
+use Rattle.scp_slot.specs.scp_types.specs.declared.names.NodeId.{NodeId}
+use Rattle.scp_slot.specs.scp_vote.specs.declared.claim.StatementKind.{StatementKind}
 use Rattle.scp_ledger.specs.declared.journal.Fate.{Fate}
 use Rattle.scp_ledger.specs.Journal.{Heard, fresh_heard, fresh_in, last_of, newest, is_of}
 

@@ -2,16 +2,16 @@
 use Rattle.std.proofs.Common.{◌≡◌, ℕ, Bool, true, false, List, refl, sym, ◌∙◌, ap, subst, inl, inr, Result, Ok, Err}
 use Rattle.std.proofs.Common.{cond, ◌+◌, ◌++◌}
 use Rattle.std.specs.Prelude.{Option, Some, None, IfOk, OnOk, option_map, option_to_list}
-use Rattle.scp_types.specs.declared.names.ConnId.{ConnId}
-use Rattle.scp_types.specs.declared.names.Seq.{Seq}
-use Rattle.scp_types.specs.declared.names.Slot.{Slot}
-use Rattle.scp_driver.specs.declared.driver.Level.{Level}
-use Rattle.scp_quorum.specs.QuorumTree.{QuorumTree}
-use Rattle.scp_quorum.specs.SharedSet.{SharedSet}
-use Rattle.scp_envelope.specs.declared.statement.Envelope.{Envelope as Enveloped}
-use Rattle.scp_wire.specs.Boxed.{Boxed}
-use Rattle.scp_wire.specs.declared.message.Message.{Message}
-use Rattle.scp_wire.specs.declared.message.Message.TheVariants.{Envelope, Record}
+use Rattle.scp_slot.specs.scp_types.specs.declared.names.ConnId.{ConnId}
+use Rattle.scp_slot.specs.scp_types.specs.declared.names.Seq.{Seq}
+use Rattle.scp_slot.specs.scp_types.specs.declared.names.Slot.{Slot}
+use Rattle.scp_slot.specs.scp_driver.specs.declared.driver.Level.{Level}
+use Rattle.scp_slot.specs.scp_quorum.specs.QuorumTree.{QuorumTree}
+use Rattle.scp_slot.specs.scp_quorum.specs.SharedSet.{SharedSet}
+use Rattle.scp_slot.specs.scp_envelope.specs.declared.statement.Envelope.{Envelope as Enveloped}
+use Rattle.scp_pending.specs.scp_wire.specs.Boxed.{Boxed}
+use Rattle.scp_pending.specs.scp_wire.specs.declared.message.Message.{Message}
+use Rattle.scp_pending.specs.scp_wire.specs.declared.message.Message.TheVariants.{Envelope, Record}
 use Rattle.scp_slot.specs.declared.machine.SlotMachine.{SlotMachine}
 use Rattle.scp_slot.specs.declared.output.SlotInput.{SlotInput}
 use Rattle.scp_slot.specs.declared.output.SlotInput.TheVariants as input

@@ -9,14 +9,14 @@ use Rattle.std.specs.Cmp.{unsigned_tied}
 use Rattle.std.proofs.lemmas.Bool.{eqb-true}
 use Rattle.std.proofs.lemmas.List.{append-nil}
 use Rattle.std.proofs.lemmas.List.Elements.{All-nil, All-cons}
-use Rattle.scp_types.specs.declared.names.NodeId.{NodeId}
-use Rattle.scp_types.specs.declared.names.Slot.{Slot}
-use Rattle.scp_driver.specs.declared.driver.Level.{Level}
-use Rattle.scp_quorum.specs.SharedSet.{SharedSet}
-use Rattle.scp_envelope.specs.declared.statement.Envelope.{Envelope as Enveloped}
-use Rattle.scp_vote.specs.Board.{kind_of_pledges}
-use Rattle.scp_vote.specs.declared.claim.StatementKind.{StatementKind}
-use Rattle.scp_wire.specs.declared.message.Message.TheVariants.{Envelope}
+use Rattle.scp_slot.specs.scp_types.specs.declared.names.NodeId.{NodeId}
+use Rattle.scp_slot.specs.scp_types.specs.declared.names.Slot.{Slot}
+use Rattle.scp_slot.specs.scp_driver.specs.declared.driver.Level.{Level}
+use Rattle.scp_slot.specs.scp_quorum.specs.SharedSet.{SharedSet}
+use Rattle.scp_slot.specs.scp_envelope.specs.declared.statement.Envelope.{Envelope as Enveloped}
+use Rattle.scp_slot.specs.scp_vote.specs.Board.{kind_of_pledges}
+use Rattle.scp_slot.specs.scp_vote.specs.declared.claim.StatementKind.{StatementKind}
+use Rattle.scp_pending.specs.scp_wire.specs.declared.message.Message.TheVariants.{Envelope}
 use Rattle.scp_slot.specs.scp_ballot.specs.declared.balloted.Certified.{Certified}
 use Rattle.scp_slot.specs.scp_ballot.specs.Balloting as ballot
 use Rattle.scp_slot.specs.declared.machine.SlotMachine.{SlotMachine}

@@ -3,15 +3,15 @@ use Rattle.std.proofs.Common.{◌≡◌, ℕ, List, [], ◌∷◌, ◌++◌, ref
 use Rattle.std.proofs.lemmas.Grind.{flat_map-append}
 use Rattle.std.proofs.lemmas.List.{append-nil}
 use Rattle.std.specs.Prelude.{Option, Some, None}
-use Rattle.scp_types.specs.declared.names.ConnId.{ConnId}
-use Rattle.scp_types.specs.declared.names.Seq.{Seq}
-use Rattle.scp_driver.specs.declared.driver.Level.{Level}
-use Rattle.scp_quorum.specs.QuorumTree.{QuorumTree}
-use Rattle.scp_wire.specs.Marks.{Mark}
-use Rattle.scp_wire.specs.declared.link.Command.{Command}
-use Rattle.scp_wire.specs.declared.link.Command.TheVariants.{Propose, Round, Timer, Tick, Ask}
-use Rattle.scp_wire.specs.declared.message.Message.{Message}
-use Rattle.scp_wire.specs.declared.message.Message.TheVariants.{Envelope, GetSet, Set, NoSet, GetRecord, Record, Records}
+use Rattle.scp_slot.specs.scp_types.specs.declared.names.ConnId.{ConnId}
+use Rattle.scp_slot.specs.scp_types.specs.declared.names.Seq.{Seq}
+use Rattle.scp_slot.specs.scp_driver.specs.declared.driver.Level.{Level}
+use Rattle.scp_slot.specs.scp_quorum.specs.QuorumTree.{QuorumTree}
+use Rattle.scp_pending.specs.scp_wire.specs.Marks.{Mark}
+use Rattle.scp_pending.specs.scp_wire.specs.declared.link.Command.{Command}
+use Rattle.scp_pending.specs.scp_wire.specs.declared.link.Command.TheVariants.{Propose, Round, Timer, Tick, Ask}
+use Rattle.scp_pending.specs.scp_wire.specs.declared.message.Message.{Message}
+use Rattle.scp_pending.specs.scp_wire.specs.declared.message.Message.TheVariants.{Envelope, GetSet, Set, NoSet, GetRecord, Record, Records}
 use Rattle.scp_pending.specs.declared.ready.Ready.{Ready}
 use Rattle.scp_pending.specs.declared.ready.Ready.TheVariants as ready
 use Rattle.scp_pending.specs.Line.{ready_mark}
@@ -21,8 +21,8 @@ use Rattle.scp_ledger.specs.declared.journal.Fate.TheVariants.{Taken, Dropped, C
 use Rattle.scp_ledger.specs.declared.took.Took.{Took}
 use Rattle.scp_ledger.specs.declared.journal.Verdict.{Verdict}
 use Rattle.scp_ledger.specs.declared.journal.Verdict.TheVariants.{Idle}
-use Rattle.scp_types.specs.declared.names.Slot.{Slot}
-use Rattle.scp_quorum.specs.SharedSet.{SharedSet}
+use Rattle.scp_slot.specs.scp_types.specs.declared.names.Slot.{Slot}
+use Rattle.scp_slot.specs.scp_quorum.specs.SharedSet.{SharedSet}
 use Rattle.scp_ledger.specs.Seen.{LedgerView}
 use Rattle.scp_ledger.specs.Takes.{Takes, TakesMessage, TakesCommand, TakesRecord, Commands, Passes}
 use Rattle.scp_ledger.specs.Marks.{entry_mark, marks_of}

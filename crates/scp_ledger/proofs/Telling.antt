@@ -1,11 +1,11 @@
 -- What became of a command, by the verdict on it.
 use Rattle.std.proofs.Common.{◌≡◌, ◌≢◌, ℕ, ◌<◌, ◌≤◌, true, false, List, [], refl, sym, ◌∙◌, ap, subst, inl, inr, arith, length}
 use Rattle.std.specs.Prelude.{Bool, Option, Some, None, IsSome, IsSomeAnd, IsTrue, ◌↔◌, option_to_list, map, ◌++◌}
-use Rattle.scp_types.specs.declared.names.Slot.{Slot}
-use Rattle.scp_driver.specs.declared.driver.Level.{Level}
-use Rattle.scp_driver.specs.declared.driver.Level.TheVariants.{FullyValidated}
-use Rattle.scp_envelope.specs.declared.statement.Envelope.{Envelope as Enveloped}
-use Rattle.scp_envelope.specs.declared.statement.Pledges.{Pledges}
+use Rattle.scp_slot.specs.scp_types.specs.declared.names.Slot.{Slot}
+use Rattle.scp_slot.specs.scp_driver.specs.declared.driver.Level.{Level}
+use Rattle.scp_slot.specs.scp_driver.specs.declared.driver.Level.TheVariants.{FullyValidated}
+use Rattle.scp_slot.specs.scp_envelope.specs.declared.statement.Envelope.{Envelope as Enveloped}
+use Rattle.scp_slot.specs.scp_envelope.specs.declared.statement.Pledges.{Pledges}
 use Rattle.scp_slot.specs.scp_ballot.specs.Balloting.{HasBallot, HasCounter, own}
 use Rattle.scp_slot.specs.declared.machine.SlotMachine.{SlotMachine}
 use Rattle.scp_slot.specs.declared.output.SlotInput.{SlotInput}

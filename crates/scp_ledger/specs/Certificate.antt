@@ -3,17 +3,17 @@ use Rattle.std.specs.Prelude.{◌≡◌, ◌≢◌, ℕ, Bool, true, List, [], O
 use Rattle.std.specs.Option.{option_map}
 use Rattle.std.specs.List.{list_any}
 use Rattle.std.specs.BTreeMap.{is_at}
-use Rattle.scp_types.specs.declared.names.NodeId.{NodeId}
-use Rattle.scp_quorum.specs.NodeSet.{node_cmp}
-use Rattle.scp_quorum.specs.Quorum.{IsQuorum}
-use Rattle.scp_quorum.specs.QuorumTree.{QuorumTree}
-use Rattle.scp_quorum.specs.QuorumKind.{set_hash}
-use Rattle.scp_envelope.specs.Claims.{AcceptsCommit}
-use Rattle.scp_envelope.specs.Kinds.{set_hash_of}
-use Rattle.scp_envelope.specs.declared.statement.Envelope.{Envelope}
-use Rattle.scp_envelope.specs.declared.statement.Pledges.{Pledges}
-use Rattle.scp_envelope.specs.declared.statement.Pledges.TheVariants.{Prepare, Confirm, Externalize, Nominate}
-use Rattle.scp_vote.specs.Board.{counted_of_other}
+use Rattle.scp_slot.specs.scp_types.specs.declared.names.NodeId.{NodeId}
+use Rattle.scp_slot.specs.scp_quorum.specs.NodeSet.{node_cmp}
+use Rattle.scp_slot.specs.scp_quorum.specs.Quorum.{IsQuorum}
+use Rattle.scp_slot.specs.scp_quorum.specs.QuorumTree.{QuorumTree}
+use Rattle.scp_slot.specs.scp_quorum.specs.QuorumKind.{set_hash}
+use Rattle.scp_slot.specs.scp_envelope.specs.Claims.{AcceptsCommit}
+use Rattle.scp_slot.specs.scp_envelope.specs.Kinds.{set_hash_of}
+use Rattle.scp_slot.specs.scp_envelope.specs.declared.statement.Envelope.{Envelope}
+use Rattle.scp_slot.specs.scp_envelope.specs.declared.statement.Pledges.{Pledges}
+use Rattle.scp_slot.specs.scp_envelope.specs.declared.statement.Pledges.TheVariants.{Prepare, Confirm, Externalize, Nominate}
+use Rattle.scp_slot.specs.scp_vote.specs.Board.{counted_of_other}
 use Rattle.scp_ledger.specs.Journal.{Heard}
 
 -- the set that counts for another node: that node alone if its statement is an EXTERNALIZE, else the set that came with the statement

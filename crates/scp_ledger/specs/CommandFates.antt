@@ -1,10 +1,10 @@
 -- What became of a command, by the ledger that took it and the machine of its slot as it was.
 use Rattle.std.specs.Prelude.{ℕ, ◌<◌, ◌≤◌, ◌≡◌, ◌≢◌, ◌⊎◌, true, List, [], None, IsSome, IsSomeAnd, length}
-use Rattle.scp_types.specs.declared.names.Slot.{Slot}
-use Rattle.scp_driver.specs.declared.driver.Level.{Level}
-use Rattle.scp_driver.specs.declared.driver.Level.TheVariants.{FullyValidated}
-use Rattle.scp_wire.specs.declared.link.Command.{Command}
-use Rattle.scp_wire.specs.declared.link.Command.TheVariants.{Propose, Round, Timer, Tick, Ask}
+use Rattle.scp_slot.specs.scp_types.specs.declared.names.Slot.{Slot}
+use Rattle.scp_slot.specs.scp_driver.specs.declared.driver.Level.{Level}
+use Rattle.scp_slot.specs.scp_driver.specs.declared.driver.Level.TheVariants.{FullyValidated}
+use Rattle.scp_pending.specs.scp_wire.specs.declared.link.Command.{Command}
+use Rattle.scp_pending.specs.scp_wire.specs.declared.link.Command.TheVariants.{Propose, Round, Timer, Tick, Ask}
 use Rattle.scp_pending.specs.declared.ready.Ready.{Ready}
 use Rattle.scp_pending.specs.declared.ready.Ready.TheVariants as ready
 use Rattle.scp_slot.specs.scp_ballot.specs.Balloting.{HasBallot}

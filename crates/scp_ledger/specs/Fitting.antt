@@ -1,6 +1,6 @@
 -- What goes out fits a link (this project's profile).
-use Rattle.scp_wire.specs.Fitting.{IsFitting}
-use Rattle.scp_wire.specs.declared.message.Message.TheVariants.{Envelope}
+use Rattle.scp_pending.specs.scp_wire.specs.Fitting.{IsFitting}
+use Rattle.scp_pending.specs.scp_wire.specs.declared.message.Message.TheVariants.{Envelope}
 use Rattle.scp_ledger.specs.declared.took.Outgoing.{Outgoing}
 use Rattle.scp_ledger.specs.declared.took.Outgoing.TheVariants.{ToAll, To}
 

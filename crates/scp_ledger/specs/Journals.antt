@@ -1,14 +1,14 @@
 -- What holds of the slot stage: of what it took, of what it gave, and of its ledger.
 use Rattle.std.specs.Prelude.{◌≡◌, ℕ, true, false, List, [], ◌∷◌, ◌++◌, Option, Any, Contains, IfSome, map, flat_map, option_map, option_to_list}
-use Rattle.scp_types.specs.declared.names.ConnId.{ConnId}
-use Rattle.scp_types.specs.declared.names.NodeId.{NodeId}
-use Rattle.scp_types.specs.declared.names.Seq.{Seq}
-use Rattle.scp_quorum.specs.QuorumTree.{QuorumTree}
-use Rattle.scp_driver.specs.declared.driver.Level.{Level}
-use Rattle.scp_wire.specs.declared.message.Message.{Message}
-use Rattle.scp_wire.specs.declared.message.Message.TheVariants.{GetRecord}
-use Rattle.scp_wire.specs.declared.link.Cause.{Cause}
-use Rattle.scp_wire.specs.declared.link.Command.TheVariants.{Ask}
+use Rattle.scp_slot.specs.scp_types.specs.declared.names.ConnId.{ConnId}
+use Rattle.scp_slot.specs.scp_types.specs.declared.names.NodeId.{NodeId}
+use Rattle.scp_slot.specs.scp_types.specs.declared.names.Seq.{Seq}
+use Rattle.scp_slot.specs.scp_quorum.specs.QuorumTree.{QuorumTree}
+use Rattle.scp_slot.specs.scp_driver.specs.declared.driver.Level.{Level}
+use Rattle.scp_pending.specs.scp_wire.specs.declared.message.Message.{Message}
+use Rattle.scp_pending.specs.scp_wire.specs.declared.message.Message.TheVariants.{GetRecord}
+use Rattle.scp_pending.specs.scp_wire.specs.declared.link.Cause.{Cause}
+use Rattle.scp_pending.specs.scp_wire.specs.declared.link.Command.TheVariants.{Ask}
 use Rattle.scp_pending.specs.declared.ready.DropCause.{DropCause}
 use Rattle.scp_pending.specs.declared.ready.Ready.{Ready}
 use Rattle.scp_pending.specs.declared.ready.Ready.TheVariants as ready

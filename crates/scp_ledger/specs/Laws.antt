@@ -1,7 +1,7 @@
 -- What the definitions give together.
 use Rattle.std.specs.Prelude.{◌≡◌, ◌++◌, ℕ, List, Option}
-use Rattle.scp_types.specs.declared.names.ConnId.{ConnId}
-use Rattle.scp_driver.specs.declared.driver.Level.{Level}
+use Rattle.scp_slot.specs.scp_types.specs.declared.names.ConnId.{ConnId}
+use Rattle.scp_slot.specs.scp_driver.specs.declared.driver.Level.{Level}
 use Rattle.scp_pending.specs.declared.ready.Ready.{Ready}
 use Rattle.scp_pending.specs.Line.{ready_mark}
 use Rattle.scp_ledger.specs.declared.took.Took.{Took}

@@ -1,11 +1,11 @@
 -- What holds of a ledger.
 use Rattle.std.specs.Prelude.{ℕ, ◌≤◌, ◌≡◌, false, List, [], Option, Some, None, All, length}
 use Rattle.std.specs.Option.{option_map}
-use Rattle.scp_types.specs.declared.names.NodeId.{NodeId}
-use Rattle.scp_driver.specs.declared.driver.Level.{Level}
-use Rattle.scp_quorum.specs.QuorumTree.{QuorumTree}
-use Rattle.scp_quorum.specs.QuorumKind.{set_hash}
-use Rattle.scp_vote.specs.declared.claim.StatementKind.{StatementKind}
+use Rattle.scp_slot.specs.scp_types.specs.declared.names.NodeId.{NodeId}
+use Rattle.scp_slot.specs.scp_driver.specs.declared.driver.Level.{Level}
+use Rattle.scp_slot.specs.scp_quorum.specs.QuorumTree.{QuorumTree}
+use Rattle.scp_slot.specs.scp_quorum.specs.QuorumKind.{set_hash}
+use Rattle.scp_slot.specs.scp_vote.specs.declared.claim.StatementKind.{StatementKind}
 use Rattle.scp_slot.specs.declared.machine.SlotMachine.{SlotMachine}
 use Rattle.scp_slot.specs.declared.newest.Heard.{Heard as Kept}
 use Rattle.scp_slot.specs.Slot.{SlotView, slot_view, driver_of, IsSound, IsRunning as IsSlotRunning}

@@ -1,4 +1,17 @@
+pub use Rattle.scp_slot.specs.scp_types
+pub use Rattle.scp_slot.specs.scp_xdr
+pub use Rattle.scp_slot.specs.scp_quorum
+pub use Rattle.scp_slot.specs.scp_envelope
+pub use Rattle.scp_slot.specs.scp_kv
+pub use Rattle.scp_slot.specs.scp_vote
+pub use Rattle.scp_slot.specs.scp_driver
+pub use Rattle.scp_slot.specs.scp_nominate
+pub use Rattle.scp_slot.specs.scp_ballot_rules
+pub use Rattle.scp_slot.specs.scp_ballot
 pub use Rattle.scp_slot
+pub use Rattle.scp_pending.specs.scp_wire
+pub use Rattle.scp_pending.specs.scp_fetch
+pub use Rattle.scp_pending
 pub mod Seen
 pub mod Journal
 pub mod Certificate

@@ -1,8 +1,8 @@
 -- What a journal says of one connection.
 use Rattle.std.specs.Prelude.{List, flat_map}
-use Rattle.scp_types.specs.declared.names.ConnId.{ConnId}
-use Rattle.scp_wire.specs.Connections.{same_conn}
-use Rattle.scp_wire.specs.Marks.{Mark, number, ended, one_if}
+use Rattle.scp_slot.specs.scp_types.specs.declared.names.ConnId.{ConnId}
+use Rattle.scp_pending.specs.scp_wire.specs.Connections.{same_conn}
+use Rattle.scp_pending.specs.scp_wire.specs.Marks.{Mark, number, ended, one_if}
 use Rattle.scp_ledger.specs.declared.journal.Fate.{Fate}
 use Rattle.scp_ledger.specs.declared.journal.Fate.TheVariants.{Taken, Dropped, Closed}
 

@@ -2,15 +2,15 @@
 use Rattle.std.specs.Prelude.{ℕ, ◌≡◌, Bool, false, ◌&&◌, if◌then◌else◌, List, [], ◌∷◌, ◌++◌, Option, Some, None, IsSomeAnd, option_to_list, map, filter, flat_map}
 use Rattle.std.specs.List.{list_any}
 use Rattle.std.specs.BTreeMap as tree
-use Rattle.scp_types.specs.declared.names.ConnId.{ConnId}
-use Rattle.scp_types.specs.declared.names.NodeId.{NodeId}
-use Rattle.scp_driver.specs.declared.driver.Level.{Level}
-use Rattle.scp_quorum.specs.QuorumTree.{QuorumTree}
-use Rattle.scp_vote.specs.Board.{kind_of_pledges}
-use Rattle.scp_wire.specs.declared.link.Command.{Command}
-use Rattle.scp_wire.specs.declared.link.Command.TheVariants.{Propose, Round, Timer, Tick, Ask}
-use Rattle.scp_wire.specs.declared.message.Message.{Message}
-use Rattle.scp_wire.specs.declared.message.Message.TheVariants.{Envelope, GetSet, Set, NoSet, GetRecord, Record, Records}
+use Rattle.scp_slot.specs.scp_types.specs.declared.names.ConnId.{ConnId}
+use Rattle.scp_slot.specs.scp_types.specs.declared.names.NodeId.{NodeId}
+use Rattle.scp_slot.specs.scp_driver.specs.declared.driver.Level.{Level}
+use Rattle.scp_slot.specs.scp_quorum.specs.QuorumTree.{QuorumTree}
+use Rattle.scp_slot.specs.scp_vote.specs.Board.{kind_of_pledges}
+use Rattle.scp_pending.specs.scp_wire.specs.declared.link.Command.{Command}
+use Rattle.scp_pending.specs.scp_wire.specs.declared.link.Command.TheVariants.{Propose, Round, Timer, Tick, Ask}
+use Rattle.scp_pending.specs.scp_wire.specs.declared.message.Message.{Message}
+use Rattle.scp_pending.specs.scp_wire.specs.declared.message.Message.TheVariants.{Envelope, GetSet, Set, NoSet, GetRecord, Record, Records}
 use Rattle.scp_pending.specs.declared.ready.Ready.{Ready}
 use Rattle.scp_pending.specs.declared.ready.Ready.TheVariants as ready
 use Rattle.scp_slot.specs.declared.output.Verdict.{Verdict as Found}

@@ -1,6 +1,6 @@
 -- Which timers of the open slots run.
 use Rattle.std.specs.Prelude.{◌≡◌, ◌<◌, ◌≤◌, ◌+◌, ◌^◌, ℕ, zero, suc, List, [], Option, Some, None}
-use Rattle.scp_types.specs.declared.names.Slot.{Slot}
+use Rattle.scp_slot.specs.scp_types.specs.declared.names.Slot.{Slot}
 use Rattle.scp_slot.specs.declared.machine.SlotMachine.{SlotMachine}
 use Rattle.scp_slot.specs.declared.timers.Timer.{Timer}
 use Rattle.scp_slot.specs.Slot.{slot_view}

@@ -1,17 +1,17 @@
 -- The verdicts: the first that fits, by the journal, the decisions and the asked links as they were before.
 use Rattle.std.specs.Prelude.{ℕ, ◌+◌, ◌<◌, ◌≤◌, ◌≡◌, ◌⊎◌, Bool, true, false, List, Option, IsSomeAnd, option_map, unwrap_or, position, length}
-use Rattle.scp_types.specs.declared.limits.TheConstants.{WINDOW}
-use Rattle.scp_types.specs.declared.names.ConnId.{ConnId}
-use Rattle.scp_types.specs.declared.names.NodeId.{NodeId}
-use Rattle.scp_types.specs.declared.names.Slot.{Slot}
-use Rattle.scp_driver.specs.declared.driver.Level.{Level}
-use Rattle.scp_envelope.specs.declared.statement.Statement.{Statement}
-use Rattle.scp_envelope.specs.Newer.{IsNewer}
-use Rattle.scp_envelope.specs.Sane.{IsSane}
-use Rattle.scp_vote.specs.Board.{kind_of_pledges}
+use Rattle.scp_slot.specs.scp_types.specs.declared.limits.TheConstants.{WINDOW}
+use Rattle.scp_slot.specs.scp_types.specs.declared.names.ConnId.{ConnId}
+use Rattle.scp_slot.specs.scp_types.specs.declared.names.NodeId.{NodeId}
+use Rattle.scp_slot.specs.scp_types.specs.declared.names.Slot.{Slot}
+use Rattle.scp_slot.specs.scp_driver.specs.declared.driver.Level.{Level}
+use Rattle.scp_slot.specs.scp_envelope.specs.declared.statement.Statement.{Statement}
+use Rattle.scp_slot.specs.scp_envelope.specs.Newer.{IsNewer}
+use Rattle.scp_slot.specs.scp_envelope.specs.Sane.{IsSane}
+use Rattle.scp_slot.specs.scp_vote.specs.Board.{kind_of_pledges}
 use Rattle.scp_slot.specs.Judged.{HasInvalid}
-use Rattle.scp_wire.specs.Connections.{same_node}
-use Rattle.scp_wire.specs.Sets.{IsSetOf}
+use Rattle.scp_pending.specs.scp_wire.specs.Connections.{same_node}
+use Rattle.scp_pending.specs.scp_wire.specs.Sets.{IsSetOf}
 use Rattle.scp_ledger.specs.declared.journal.Fate.{Fate}
 use Rattle.scp_ledger.specs.declared.journal.Fate.TheVariants.{Taken, Dropped, Closed}
 use Rattle.scp_ledger.specs.declared.journal.Verdict.{Verdict}

@@ -1,11 +1,11 @@
 //! The journal's entries, and the decisions that they make.
 
 use crate::quorum::Quorum;
-use scp_envelope::SharedEnvelope;
 use scp_pending::DropCause;
-use scp_quorum::SaneSet;
-use scp_types::{ConnId, Seq, Slot, Value};
-use scp_wire::{Cause, Message};
+use scp_pending::below::wire::{Cause, Message};
+use scp_slot::below::envelope::SharedEnvelope;
+use scp_slot::below::quorum::SaneSet;
+use scp_slot::below::types::{ConnId, Seq, Slot, Value};
 use std::cmp::Ordering;
 use std::sync::Arc;
 

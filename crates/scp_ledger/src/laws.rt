@@ -3,7 +3,7 @@ ghost use Rattle.scp_ledger.specs.Journals.{JournalsPass, LedgerKeepsWindow, Tak
 ghost use Rattle.scp_ledger.specs.Laws.{JournalStands};
 ghost use Rattle.scp_ledger.specs.Onwards.{WindowIsKept};
 
-use scp_driver::Driver;
+use scp_slot::below::driver::Driver;
 
 /// For each connection, the journal grows by what each thing that is taken says of that connection: the number of a message, or its end.
 pub fn the_journal_stands_for_what_was_taken<D: Driver + Drop + Copy>()

@@ -1,6 +1,6 @@
 //! A ledger.
 ghost use Rattle.std.specs.Prelude.{◌≡◌, ◌↔◌, ◌≤◌, ◌⊎◌, ◌+◌, ◌++◌, [], true, false, length, All, OnOk, OnErr, IfOk, IfErr, IsErrOf, option_copied};
-ghost use Rattle.scp_types.specs.declared.names.ConnId.{ConnId};
+ghost use Rattle.scp_slot.specs.scp_types.specs.declared.names.ConnId.{ConnId};
 ghost use Rattle.scp_pending.specs.Line.{ready_mark};
 ghost use Rattle.scp_ledger.specs.Fitting.{FitsOut};
 ghost use Rattle.scp_ledger.specs.Ledger.{IsLedger, IsRunning};
@@ -13,11 +13,11 @@ use crate::journal::{Fate, JOURNAL_LIMIT};
 use crate::shared::SharedDecision;
 use crate::state::State;
 use crate::took::Took;
-use scp_driver::Driver;
 use scp_pending::Ready;
-use scp_quorum::SaneSet;
 use scp_slot::SlotMachine;
-use scp_types::{Fault, NodeId, Slot};
+use scp_slot::below::driver::Driver;
+use scp_slot::below::quorum::SaneSet;
+use scp_slot::below::types::{Fault, NodeId, Slot};
 use std::alloc::Global;
 use std::marker::Model;
 use std::sync::Arc;
@@ -32,8 +32,8 @@ pub struct Ledger<D: Driver + Drop + Copy> {
 
 impl<D: Driver + Drop + Copy> Model for Ledger<D> {
     ghost use Rattle.std.specs.Coded.{codes};
-    ghost use Rattle.scp_xdr.specs.inside.TreeModel.{coded_row};
-    ghost use Rattle.scp_quorum.specs.inside.QuorumTree.{coded_level};
+    ghost use Rattle.scp_slot.specs.scp_xdr.specs.inside.TreeModel.{coded_row};
+    ghost use Rattle.scp_slot.specs.scp_quorum.specs.inside.QuorumTree.{coded_level};
     ghost use Rattle.scp_ledger.specs.Seen.{LedgerView};
     ghost use Rattle.scp_ledger.specs.inside.Coding.{machine_code};
 

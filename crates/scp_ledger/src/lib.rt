@@ -16,6 +16,7 @@
 //! - A ledger that failed keeps its journal and its decisions.
 #![tactic(auto)]
 
+pub mod below;
 mod journal;
 mod laws;
 mod ledger;

@@ -2,19 +2,19 @@
 ghost use Rattle.std.specs.Prelude.{◌≡◌, ◌<◌, ◌≤◌, ◌++◌, ◌∷◌, [], OnOk, OnErr, IfOk, IfSome, IsOkUnless, Some, None, All, option_to_list, map, length, position, vec_len};
 ghost use Rattle.std.specs.Vec.{vec_capacity};
 ghost use Rattle.std.specs.Option.{ForSome};
-ghost use Rattle.scp_wire.specs.Connections.{same_node};
+ghost use Rattle.scp_pending.specs.scp_wire.specs.Connections.{same_node};
 ghost use Rattle.scp_ledger.specs.Verdicts.{link_of};
-ghost use Rattle.scp_envelope.specs.Short.{IsShort};
+ghost use Rattle.scp_slot.specs.scp_envelope.specs.Short.{IsShort};
 ghost use Rattle.scp_ledger.specs.Fitting.{FitsOut};
 ghost use Rattle.scp_ledger.specs.Takes.{to_all, to_peers};
 
 use crate::journal::Fate;
 use crate::shared::SharedDecision;
 use crate::took::{Outgoing, OutgoingList};
-use scp_envelope::{SharedEnvelope, a_short_envelope_fits};
+use scp_pending::below::wire::what_fits_a_link;
 use scp_slot::Emitted;
-use scp_types::{ConnId, Fault, NodeId};
-use scp_wire::what_fits_a_link;
+use scp_slot::below::envelope::{SharedEnvelope, a_short_envelope_fits};
+use scp_slot::below::types::{ConnId, Fault, NodeId};
 use std::alloc::Global;
 
 /// The link of a connection: the place of its sender among the peers. If the sender is no peer, it is the number of peers, which is no link.

@@ -3,7 +3,7 @@ ghost use Rattle.std.specs.Prelude.{◌≡◌, IfOk, length};
 ghost use Rattle.std.specs.BTreeSet.{keys};
 ghost use Rattle.scp_ledger.specs.Certificate.{has_node};
 
-use scp_types::NodeId;
+use scp_slot::below::types::NodeId;
 use std::alloc::{AllocError, Global};
 use std::collections::BTreeSet;
 use std::marker::Model;
@@ -14,7 +14,7 @@ pub struct Quorum(BTreeSet<NodeId>);
 
 impl Model for Quorum {
     ghost use Rattle.std.specs.Prelude.{List};
-    ghost use Rattle.scp_types.specs.declared.names.NodeId.{NodeId};
+    ghost use Rattle.scp_slot.specs.scp_types.specs.declared.names.NodeId.{NodeId};
 
     ghost Value = { List NodeId };
 

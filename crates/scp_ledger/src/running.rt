@@ -3,9 +3,9 @@ ghost use Rattle.std.specs.Prelude.{◌≡◌, ◌+◌, IfOk, OnOk, IsOkUnless};
 ghost use Rattle.scp_ledger.specs.Timers.{AreTimersAt, AreTimersIfSlot, AreTimers};
 
 use crate::ledger::Ledger;
-use scp_driver::Driver;
+use scp_slot::below::driver::Driver;
+use scp_slot::below::types::{Fault, Slot, WINDOW};
 use scp_slot::{Timer, add_timers};
-use scp_types::{Fault, Slot, WINDOW};
 use std::alloc::Global;
 
 /// Adds the timers of one slot that should run.

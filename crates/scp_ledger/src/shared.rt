@@ -2,7 +2,7 @@
 ghost use Rattle.std.specs.Prelude.{◌≡◌, ◌<◌, ◌≤◌, ◌↔◌, ◌⊎◌, length, IfOk, IfErr, IsOkUnless, IsErrOf};
 
 use crate::journal::Decision;
-use scp_types::{Fault, VALUE_LIMIT};
+use scp_slot::below::types::{Fault, VALUE_LIMIT};
 use std::alloc::Global;
 use std::marker::Model;
 use std::ops::Deref;

@@ -2,9 +2,9 @@
 
 use crate::journal::Verdict;
 use crate::shared::SharedDecision;
-use scp_envelope::SharedEnvelope;
-use scp_types::Slot;
-use scp_wire::Message;
+use scp_pending::below::wire::Message;
+use scp_slot::below::envelope::SharedEnvelope;
+use scp_slot::below::types::Slot;
 use std::marker::Model;
 
 /// What goes on to the applier.
@@ -31,8 +31,8 @@ pub struct OutgoingList(Vec<Outgoing>);
 
 impl Model for OutgoingList {
     ghost use Rattle.std.specs.Coded.{codes};
-    ghost use Rattle.scp_xdr.specs.inside.TreeModel.{coded_row};
-    ghost use Rattle.scp_quorum.specs.inside.QuorumTree.{coded_level};
+    ghost use Rattle.scp_slot.specs.scp_xdr.specs.inside.TreeModel.{coded_row};
+    ghost use Rattle.scp_slot.specs.scp_quorum.specs.inside.QuorumTree.{coded_level};
     ghost use Rattle.std.specs.Prelude.{List};
     ghost use Rattle.scp_ledger.specs.declared.took.Outgoing.{Outgoing};
     ghost use Rattle.std.specs.Prelude.{All};

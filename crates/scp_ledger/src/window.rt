@@ -4,7 +4,7 @@ ghost use Rattle.scp_ledger.specs.declared.journal.Decision.{Decision};
 ghost use Rattle.scp_ledger.specs.Verdicts.{IsFar};
 ghost use Rattle.scp_ledger.specs.inside.Window.{is_ahead, IsBounded, IsWindow, Passes};
 
-use scp_types::{Fault, Slot, WINDOW};
+use scp_slot::below::types::{Fault, Slot, WINDOW};
 use std::alloc::Global;
 use std::collections::BTreeSet;
 

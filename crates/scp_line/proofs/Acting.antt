@@ -1,11 +1,11 @@
 -- What comes of a line, by the answers to its event.
 use Rattle.std.proofs.Common.{◌≡◌, ◌≢◌, ℕ, Bool, true, false, Option, None, Some, refl, ap, subst, inl, inr}
 use Rattle.std.specs.Prelude.{Result, Ok, Err}
-use Rattle.scp_types.specs.declared.fault.Fault.TheVariants.{Full as full}
+use Rattle.scp_turn.specs.scp_types.specs.declared.fault.Fault.TheVariants.{Full as full}
 use Rattle.scp_turn.specs.scp_core.specs.declared.event.Reply.{Reply}
 use Rattle.scp_turn.specs.scp_core.specs.declared.event.Reply.TheVariants.{Accepted, Full}
 use Rattle.scp_turn.specs.Kv.{Noting}
-use Rattle.scp_script.specs.declared.command.Command.{Command}
+use Rattle.scp_report.specs.scp_script.specs.declared.command.Command.{Command}
 use Rattle.scp_line.specs.declared.playing.PlayFault.{PlayFault}
 use Rattle.scp_line.specs.Nodes.{Watching, IsWant, Offers, Settles, Acts, ActsAgain, brings_to_rest}
 

@@ -7,17 +7,17 @@ use Rattle.scp_turn.specs.scp_core.specs.declared.event.Reply.{Reply}
 use Rattle.scp_turn.specs.scp_core.specs.declared.event.Reply.TheVariants.{Failed, NoLink, AlreadyOpen, LivesSpent, NotOpen, Full, Accepted, Blocked, Idle, Moved, Sent, JournalFull, NoMemory}
 use Rattle.scp_turn.specs.scp_core.specs.Node.{LinkView, HasLink, is_full}
 use Rattle.scp_turn.specs.scp_core.specs.Kv.{NodeView, Step}
-use Rattle.scp_wire.specs.Shape.{Tail}
-use Rattle.scp_wire.specs.declared.link.Command.{Command as Local}
+use Rattle.scp_turn.specs.scp_wire.specs.Shape.{Tail}
+use Rattle.scp_turn.specs.scp_wire.specs.declared.link.Command.{Command as Local}
 use Rattle.scp_turn.specs.Heard.{Nodes}
 use Rattle.scp_turn.specs.Rounds.{link_of}
-use Rattle.scp_script.specs.declared.command.Command.{Command}
-use Rattle.scp_script.specs.declared.command.Command.TheVariants as script
-use Rattle.scp_script.specs.Script.{node_count, is_open, lives, IsNode, IsLink, Admits, AreAdmitted}
+use Rattle.scp_report.specs.scp_script.specs.declared.command.Command.{Command}
+use Rattle.scp_report.specs.scp_script.specs.declared.command.Command.TheVariants as script
+use Rattle.scp_report.specs.scp_script.specs.Script.{node_count, is_open, lives, IsNode, IsLink, Admits, AreAdmitted}
 use Rattle.scp_line.specs.Play.{HasNoRoom, event_by}
 use Rattle.scp_line.proofs.Places.{of_map}
 use Rattle.scp_line.specs.Links.{AreLinked, tail_at, tail_said}
-use Rattle.scp_script.proofs.Admitted.{open_is_link}
+use Rattle.scp_report.specs.scp_script.proofs.Admitted.{open_is_link}
 
 -- ---- one node
 

@@ -3,28 +3,28 @@ use Rattle.std.proofs.Common.{◌≡◌, ◌+◌, List, [], ◌∷◌, ◌++◌,
 use Rattle.std.specs.Prelude.{option_to_list, slice_get}
 use Rattle.std.proofs.lemmas.Grind.{flat_map-append}
 use Rattle.std.proofs.lemmas.List.{map-append}
-use Rattle.scp_driver.specs.declared.kv_driver.KvDriver.{KvDriver}
-use Rattle.scp_driver.specs.Kv.{kv_says}
-use Rattle.scp_wire.specs.declared.link.Command.{Command as LocalCommand}
-use Rattle.scp_wire.specs.declared.link.Command.TheVariants as local
-use Rattle.scp_wire.specs.declared.link.Inbound.{Inbound}
-use Rattle.scp_wire.specs.declared.link.Inbound.TheVariants as inbound
-use Rattle.scp_pending.specs.declared.ready.Ready.{Ready}
-use Rattle.scp_pending.specs.declared.ready.Ready.TheVariants as ready
-use Rattle.scp_pending.specs.Endings.{passing_command, passed, commands_in, commands_of}
-use Rattle.scp_ledger.specs.declared.took.CommandFate.{CommandFate}
-use Rattle.scp_ledger.specs.declared.took.Took.{Took}
-use Rattle.scp_ledger.specs.By.{TellsBy}
-use Rattle.scp_ledger.specs.CommandFates.{IsProposalFate, IsRoundFate, IsTimerFate, IsAskFate, TellsCommand}
-use Rattle.scp_ledger.specs.Runs.{Taking, things}
-use Rattle.scp_ledger.specs.Seen.{LedgerView}
-use Rattle.scp_theorem.specs.Handed.{ServesEach}
+use Rattle.scp_turn.specs.scp_driver.specs.declared.kv_driver.KvDriver.{KvDriver}
+use Rattle.scp_turn.specs.scp_driver.specs.Kv.{kv_says}
+use Rattle.scp_turn.specs.scp_wire.specs.declared.link.Command.{Command as LocalCommand}
+use Rattle.scp_turn.specs.scp_wire.specs.declared.link.Command.TheVariants as local
+use Rattle.scp_turn.specs.scp_wire.specs.declared.link.Inbound.{Inbound}
+use Rattle.scp_turn.specs.scp_wire.specs.declared.link.Inbound.TheVariants as inbound
+use Rattle.scp_turn.specs.scp_pending.specs.declared.ready.Ready.{Ready}
+use Rattle.scp_turn.specs.scp_pending.specs.declared.ready.Ready.TheVariants as ready
+use Rattle.scp_turn.specs.scp_pending.specs.Endings.{passing_command, passed, commands_in, commands_of}
+use Rattle.scp_turn.specs.scp_ledger.specs.declared.took.CommandFate.{CommandFate}
+use Rattle.scp_turn.specs.scp_ledger.specs.declared.took.Took.{Took}
+use Rattle.scp_turn.specs.scp_ledger.specs.By.{TellsBy}
+use Rattle.scp_turn.specs.scp_ledger.specs.CommandFates.{IsProposalFate, IsRoundFate, IsTimerFate, IsAskFate, TellsCommand}
+use Rattle.scp_turn.specs.scp_ledger.specs.Runs.{Taking, things}
+use Rattle.scp_turn.specs.scp_ledger.specs.Seen.{LedgerView}
+use Rattle.scp_turn.specs.scp_theorem.specs.Handed.{ServesEach}
 use Rattle.scp_turn.specs.scp_core.specs.declared.event.Event.TheVariants.{SlotTake}
 use Rattle.scp_turn.specs.Commands.{TakenCommand, with_fate, command_taken, front_taken, commands_taken, fates_taken, taken_at, AreInTurn}
 use Rattle.scp_turn.specs.scp_core.specs.Kv.{NodeView, Moves}
 use Rattle.scp_turn.specs.Kv.{taken_over, AllIsTakenInTurn}
 use Rattle.scp_turn.specs.Heard.{past_at}
-use Rattle.scp_threaded_script.specs.scp_threaded_node.specs.scp_workers.specs.Slot.{fates_of}
+use Rattle.scp_threaded_script.specs.scp_workers.specs.Slot.{fates_of}
 use Rattle.scp_threaded_script.specs.Lines.{commands_for}
 use Rattle.scp_line.specs.Commands.{taken_among, FatesAreOfTheirLines, ReportedAreOfTheirLines}
 use Rattle.scp_line.proofs.Given.{lines_are_given}

@@ -6,22 +6,22 @@ use Rattle.std.specs.List.{last_or}
 use Rattle.std.proofs.lemmas.Bool.{cases_eq}
 use Rattle.std.proofs.lemmas.Bool.Decides.{nat_tests}
 use Rattle.std.proofs.lemmas.List.Elements.{All-append, All-nil, All-cons, All-head, All-tail}
-use Rattle.scp_types.specs.declared.limits.TheConstants.{NODE_LIMIT, PEER_LIMIT}
-use Rattle.scp_types.specs.declared.fault.Fault.{Fault}
-use Rattle.scp_types.specs.declared.fault.Fault.TheVariants.{NoMemory, BadConfig}
-use Rattle.scp_quorum.specs.QuorumTree.{QuorumTree}
-use Rattle.scp_quorum.specs.Sane.{IsSane}
+use Rattle.scp_turn.specs.scp_types.specs.declared.limits.TheConstants.{NODE_LIMIT, PEER_LIMIT}
+use Rattle.scp_turn.specs.scp_types.specs.declared.fault.Fault.{Fault}
+use Rattle.scp_turn.specs.scp_types.specs.declared.fault.Fault.TheVariants.{NoMemory, BadConfig}
+use Rattle.scp_turn.specs.scp_quorum.specs.QuorumTree.{QuorumTree}
+use Rattle.scp_turn.specs.scp_quorum.specs.Sane.{IsSane}
 use Rattle.scp_turn.specs.scp_core.specs.declared.config.Config.{Config}
-use Rattle.scp_theorem.specs.Fates.{is_among}
-use Rattle.scp_types.specs.Range.{IsInRange, AreInRange}
+use Rattle.scp_turn.specs.scp_theorem.specs.Fates.{is_among}
+use Rattle.scp_turn.specs.scp_types.specs.Range.{IsInRange, AreInRange}
 use Rattle.scp_turn.specs.scp_core.specs.Config.{IsFitWithin, IsConfig, are_apart}
 use Rattle.scp_turn.specs.scp_core.specs.Kv.{NodeView}
-use Rattle.scp_script.specs.declared.command.Command.{Command}
-use Rattle.scp_script.specs.declared.command.Command.TheVariants.{Caps, Nodes, Set, Open, Close, Send, Propose, Round, Timer, Tick, Ask, Settle, Wait, Report}
-use Rattle.scp_types.specs.declared.capacities.Capacities.{Capacities}
-use Rattle.scp_script.specs.Words.{words_of, lines_of, same, node_in, link_in, number_in, capacity_in, capacity_by, hex_bytes, set_in}
-use Rattle.scp_script.specs.Script.{node_count, command_in, commands_of, commands_in, caps_by, nodes_by, set_by, open_by, close_by, send_by, ask_by, propose_by, round_by, timer_by, wait_by}
-use Rattle.scp_script.specs.Nodes.{id_of, peers_of, set_at, capacities_given, capacities_of_none, capacities_in}
+use Rattle.scp_report.specs.scp_script.specs.declared.command.Command.{Command}
+use Rattle.scp_report.specs.scp_script.specs.declared.command.Command.TheVariants.{Caps, Nodes, Set, Open, Close, Send, Propose, Round, Timer, Tick, Ask, Settle, Wait, Report}
+use Rattle.scp_turn.specs.scp_types.specs.declared.capacities.Capacities.{Capacities}
+use Rattle.scp_report.specs.scp_script.specs.Words.{words_of, lines_of, same, node_in, link_in, number_in, capacity_in, capacity_by, hex_bytes, set_in}
+use Rattle.scp_report.specs.scp_script.specs.Script.{node_count, command_in, commands_of, commands_in, caps_by, nodes_by, set_by, open_by, close_by, send_by, ask_by, propose_by, round_by, timer_by, wait_by}
+use Rattle.scp_report.specs.scp_script.specs.Nodes.{id_of, peers_of, set_at, capacities_given, capacities_of_none, capacities_in}
 use Rattle.scp_line.specs.Play.{config_of}
 use Rattle.scp_line.specs.Nodes.{HaveRoom}
 

@@ -3,11 +3,11 @@ use Rattle.std.proofs.Common.{◌≡◌, ◌-◌, ℕ, zero, suc, Bool, true, fa
 use Rattle.std.specs.Prelude.{if◌then◌else◌}
 use Rattle.std.specs.List.{AllByRecursion}
 use Rattle.std.proofs.lemmas.Grind.{flat_map-append}
-use Rattle.scp_types.specs.declared.limits.TheConstants.{ROUND_LIMIT}
-use Rattle.scp_wire.specs.declared.link.Command.{Command as LocalCommand}
-use Rattle.scp_wire.specs.declared.link.Command.TheVariants as local
-use Rattle.scp_wire.specs.declared.link.Inbound.TheVariants.{Local}
-use Rattle.scp_pending.specs.Endings.{passing, passing_command, commands_in}
+use Rattle.scp_turn.specs.scp_types.specs.declared.limits.TheConstants.{ROUND_LIMIT}
+use Rattle.scp_turn.specs.scp_wire.specs.declared.link.Command.{Command as LocalCommand}
+use Rattle.scp_turn.specs.scp_wire.specs.declared.link.Command.TheVariants as local
+use Rattle.scp_turn.specs.scp_wire.specs.declared.link.Inbound.TheVariants.{Local}
+use Rattle.scp_turn.specs.scp_pending.specs.Endings.{passing, passing_command, commands_in}
 use Rattle.scp_turn.specs.scp_core.specs.declared.event.Event.{Event}
 use Rattle.scp_turn.specs.scp_core.specs.declared.event.Event.TheVariants as event
 use Rattle.scp_turn.specs.scp_core.specs.declared.event.Reply.{Reply}
@@ -18,9 +18,9 @@ use Rattle.scp_turn.specs.Turn.{reader_events, stage_events}
 use Rattle.scp_turn.specs.Heard.{Nodes, Heard, exchange_at, past_at, IsOne, InOrder}
 use Rattle.scp_turn.specs.Rounds.{link_of, drain_of, send_of, HearsAll, Carries, IsTurn, IsRound, IsMovingRound, AreRounds, RestsAs}
 use Rattle.scp_threaded_script.specs.Lines.{command_by, commands_for}
-use Rattle.scp_script.specs.declared.command.Command.{Command}
-use Rattle.scp_script.specs.declared.command.Command.TheVariants as script
-use Rattle.scp_script.specs.Script.{node_count}
+use Rattle.scp_report.specs.scp_script.specs.declared.command.Command.{Command}
+use Rattle.scp_report.specs.scp_script.specs.declared.command.Command.TheVariants as script
+use Rattle.scp_report.specs.scp_script.specs.Script.{node_count}
 use Rattle.scp_line.specs.Commands.{LinesAreGiven}
 use Rattle.scp_line.specs.Play.{IsOffered, HearsAs, Played, driven_in}
 

@@ -6,8 +6,8 @@ use Rattle.scp_turn.specs.Network.{NetworkView}
 use Rattle.scp_threaded_script.specs.scp_gather.specs.Kv.{NodeReport, Left}
 use Rattle.scp_threaded_script.specs.scp_threaded_node.specs.Seats.{Each}
 use Rattle.scp_threaded_script.specs.Reported.{AreNodesReported, AreSoReported}
-use Rattle.scp_script.specs.declared.command.Command.{Command}
-use Rattle.scp_script.specs.Script.{commands_in}
+use Rattle.scp_report.specs.scp_script.specs.declared.command.Command.{Command}
+use Rattle.scp_report.specs.scp_script.specs.Script.{commands_in}
 use Rattle.scp_line.specs.Headlines.{AreHeadlined, AreNodesHeadlined, AreReportsHeadlined, IsHeadlined, AreGatheredHeadlined, PlayingKeepsHeadlines, ReportingKeepsHeadlines}
 use Rattle.scp_line.specs.inside.Nodes.{IsPlayed}
 use Rattle.scp_line.specs.Left.{reports_left}

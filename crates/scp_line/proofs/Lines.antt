@@ -3,8 +3,8 @@ use Rattle.std.proofs.Common.{◌≡◌, ◌+◌, ◌-◌, ℕ, Bool, true, fals
 use Rattle.std.specs.Prelude.{Result, Ok, Err, All, slice_get}
 use Rattle.std.proofs.lemmas.Bool.Decides.{nat_tests}
 use Rattle.std.proofs.lemmas.Option.{slice_get_within}
-use Rattle.scp_types.specs.declared.fault.Fault.TheVariants.{Failed as failing, Full as full}
-use Rattle.scp_wire.specs.Shape.{Tail}
+use Rattle.scp_turn.specs.scp_types.specs.declared.fault.Fault.TheVariants.{Failed as failing, Full as full}
+use Rattle.scp_turn.specs.scp_wire.specs.Shape.{Tail}
 use Rattle.scp_turn.specs.scp_core.specs.declared.event.Event.{Event}
 use Rattle.scp_turn.specs.scp_core.specs.declared.event.Event.TheVariants as event
 use Rattle.scp_turn.specs.scp_core.specs.declared.event.Reply.{Reply}
@@ -16,10 +16,10 @@ use Rattle.scp_turn.specs.Heard.{Nodes, Heard, IsHeard, HaveHeard, Then, Noted, 
 use Rattle.scp_turn.specs.Rounds.{RestsAs, Breaks, AllRun, HasFailed, link_of}
 use Rattle.scp_turn.proofs.Hearing.{noted_on}
 use Rattle.scp_turn.specs.Network.{Hear, NetworkView}
-use Rattle.scp_script.specs.declared.command.Command.{Command}
-use Rattle.scp_script.specs.declared.command.Command.TheVariants as script
-use Rattle.scp_script.specs.Script.{node_count}
-use Rattle.scp_script.specs.Nodes.{NamesNodes, IsSmall}
+use Rattle.scp_report.specs.scp_script.specs.declared.command.Command.{Command}
+use Rattle.scp_report.specs.scp_script.specs.declared.command.Command.TheVariants as script
+use Rattle.scp_report.specs.scp_script.specs.Script.{node_count}
+use Rattle.scp_report.specs.scp_script.specs.Nodes.{NamesNodes, IsSmall}
 use Rattle.scp_line.specs.declared.playing.PlayFault.{PlayFault}
 use Rattle.scp_line.specs.Play.{Answers, IsOffered, HearsBy, HearsAs, Hears, Played, ArePlayed, BreaksBy, LineBreaks, HasNoRoom, config_of, driven_in, event_by}
 use Rattle.scp_line.specs.Nodes.{AreWho, Watching, brings_to_rest, IsMissed, Offers, Settles, Tries, GivesUp, ActsAgain, Acts, IsStoppedAt}

@@ -2,12 +2,12 @@
 use Rattle.std.proofs.Common.{◌≡◌, ◌∙◌, ℕ, ap, sym, subst, Option, Some, None}
 use Rattle.std.specs.Prelude.{option_map}
 use Rattle.std.proofs.lemmas.Option.{same_Some}
-use Rattle.scp_wire.specs.declared.link.Command.{Command as LocalCommand}
+use Rattle.scp_turn.specs.scp_wire.specs.declared.link.Command.{Command as LocalCommand}
 use Rattle.scp_turn.specs.scp_core.specs.declared.event.Event.{Event}
 use Rattle.scp_turn.specs.scp_core.specs.declared.event.Event.TheVariants as event
-use Rattle.scp_script.specs.declared.command.Command.{Command}
-use Rattle.scp_script.specs.declared.command.Command.TheVariants as script
-use Rattle.scp_script.specs.Nodes.{NamesNodes, IsSmall}
+use Rattle.scp_report.specs.scp_script.specs.declared.command.Command.{Command}
+use Rattle.scp_report.specs.scp_script.specs.declared.command.Command.TheVariants as script
+use Rattle.scp_report.specs.scp_script.specs.Nodes.{NamesNodes, IsSmall}
 use Rattle.scp_threaded_script.specs.Lines.{local_by}
 use Rattle.scp_line.specs.Play.{event_by}
 

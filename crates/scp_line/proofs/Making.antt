@@ -4,15 +4,15 @@ use Rattle.std.specs.Prelude.{Result, Ok, Err, IfOk, slice_get}
 use Rattle.std.proofs.lemmas.Bool.{cases_eq}
 use Rattle.std.proofs.lemmas.Option.{slice_get_within, get_or_from_slice_get}
 use Rattle.std.proofs.lemmas.List.{length-append, get_or_push, get_or_append_left}
-use Rattle.scp_types.specs.declared.fault.Fault.{Fault}
+use Rattle.scp_turn.specs.scp_types.specs.declared.fault.Fault.{Fault}
 use Rattle.scp_turn.specs.scp_core.specs.declared.config.Config.{Config}
 use Rattle.scp_turn.specs.scp_core.specs.Node.{LinkView, new_link}
 use Rattle.scp_turn.specs.scp_core.specs.Kv.{NodeView, LedgerTheorem, made}
 use Rattle.scp_turn.specs.Heard.{Nodes}
 use Rattle.scp_turn.specs.Rounds.{link_of}
 use Rattle.scp_turn.specs.Network.{NetworkView}
-use Rattle.scp_script.specs.declared.command.Command.{Command}
-use Rattle.scp_script.specs.Script.{node_count}
+use Rattle.scp_report.specs.scp_script.specs.declared.command.Command.{Command}
+use Rattle.scp_report.specs.scp_script.specs.Script.{node_count}
 use Rattle.scp_line.specs.Play.{IsNew, AreNew, ArePlayed, config_of}
 use Rattle.scp_line.specs.Nodes.{AreMade}
 use Rattle.scp_line.proofs.Places.{map_at, of_all}

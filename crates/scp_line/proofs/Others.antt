@@ -6,17 +6,17 @@ use Rattle.std.specs.Cmp.Lexicographic.{pointwise, bytes_decides}
 use Rattle.std.proofs.lemmas.Bool.{cases_eq}
 use Rattle.std.proofs.lemmas.Option.{slice_get_within}
 use Rattle.std.proofs.lemmas.List.{map-append, length-map, length-append, get_or-map, get_or_push, get_or_append_left, same_lists}
-use Rattle.scp_types.specs.declared.limits.TheConstants.{NODE_LIMIT}
-use Rattle.scp_types.specs.declared.names.NodeId.{NodeId}
-use Rattle.scp_types.specs.declared.fault.Fault.{Fault}
-use Rattle.scp_types.specs.declared.fault.Fault.TheVariants.{NoMemory, BadConfig}
+use Rattle.scp_turn.specs.scp_types.specs.declared.limits.TheConstants.{NODE_LIMIT}
+use Rattle.scp_turn.specs.scp_types.specs.declared.names.NodeId.{NodeId}
+use Rattle.scp_turn.specs.scp_types.specs.declared.fault.Fault.{Fault}
+use Rattle.scp_turn.specs.scp_types.specs.declared.fault.Fault.TheVariants.{NoMemory, BadConfig}
 use Rattle.scp_turn.specs.scp_core.specs.declared.config.Config.{Config}
 use Rattle.scp_turn.specs.scp_core.specs.Kv.{NodeView}
 use Rattle.scp_turn.specs.Heard.{Nodes}
 use Rattle.scp_turn.specs.Network.{NetworkView}
 use Rattle.scp_turn.specs.Linked.{ids_of, IsNetwork}
-use Rattle.scp_script.specs.declared.command.Command.{Command}
-use Rattle.scp_script.specs.Nodes.{numbers, id_of, peers_of}
+use Rattle.scp_report.specs.scp_script.specs.declared.command.Command.{Command}
+use Rattle.scp_report.specs.scp_script.specs.Nodes.{numbers, id_of, peers_of}
 use Rattle.scp_line.specs.Play.{AreNew}
 use Rattle.scp_line.proofs.Fits.{up_to, passes}
 use Rattle.scp_line.proofs.Making.{new_at}

@@ -4,7 +4,7 @@ use Rattle.std.proofs.lemmas.Bool.{cases_eq}
 use Rattle.std.proofs.lemmas.Bool.Decides.{nat_tests}
 use Rattle.std.proofs.lemmas.List.{length-map, length-append}
 use Rattle.std.proofs.lemmas.List.Elements.{filter-append}
-use Rattle.scp_script.specs.Nodes.{numbers, id_of, peers_of}
+use Rattle.scp_report.specs.scp_script.specs.Nodes.{numbers, id_of, peers_of}
 
 -- how many peers a node has
 one_more : (n node : ℕ) (b : Bool) → nat_eq (suc n) node ≡ b → length (peers_of (suc n) node) ≡ length (peers_of n node) + cond b 0 1

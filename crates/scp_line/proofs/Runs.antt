@@ -3,8 +3,8 @@ use Rattle.std.proofs.Common.{◌≡◌, ◌≢◌, ◌<◌, ◌+◌, ◌∙◌,
 use Rattle.std.specs.Prelude.{◌⊎◌, Some, Ok, Err, All, slice_get}
 use Rattle.std.proofs.Math.Seq.{take-length}
 use Rattle.std.proofs.lemmas.List.{take_more, take-append-drop, length-set}
-use Rattle.scp_types.specs.declared.fault.Fault.{Fault}
-use Rattle.scp_types.specs.declared.fault.Fault.TheVariants.{NoMemory, Failed as failing, Full as full_fault}
+use Rattle.scp_turn.specs.scp_types.specs.declared.fault.Fault.{Fault}
+use Rattle.scp_turn.specs.scp_types.specs.declared.fault.Fault.TheVariants.{NoMemory, Failed as failing, Full as full_fault}
 use Rattle.scp_turn.specs.scp_core.specs.declared.event.Event.{Event}
 use Rattle.scp_turn.specs.scp_core.specs.declared.event.Reply.{Reply}
 use Rattle.scp_turn.specs.scp_core.specs.Kv.{NodeView}
@@ -12,9 +12,9 @@ use Rattle.scp_turn.specs.Kv.{Noting}
 use Rattle.scp_turn.specs.Heard.{Nodes, Heard, Noted}
 use Rattle.scp_turn.specs.Network.{NetworkView}
 use Rattle.scp_turn.proofs.Hearing.{noted_on}
-use Rattle.scp_script.specs.declared.command.Command.{Command}
-use Rattle.scp_script.specs.Script.{AreAdmitted, node_count}
-use Rattle.scp_script.specs.Nodes.{NamesNodes}
+use Rattle.scp_report.specs.scp_script.specs.declared.command.Command.{Command}
+use Rattle.scp_report.specs.scp_script.specs.Script.{AreAdmitted, node_count}
+use Rattle.scp_report.specs.scp_script.specs.Nodes.{NamesNodes}
 use Rattle.scp_line.specs.declared.player.Stopped.{Stopped}
 use Rattle.scp_line.specs.declared.playing.PlayFault.{PlayFault}
 use Rattle.scp_line.specs.declared.watch.Both.{Both}

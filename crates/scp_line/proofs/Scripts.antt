@@ -2,14 +2,14 @@
 use Rattle.std.proofs.Common.{◌≡◌, ◌<◌, ◌+◌, ℕ, suc, Bool, List, [], ◌∷◌, ◌++◌, take, drop, length, get_or, Option, None, Some, refl, sym, ◌∙◌, ap, subst, drop-cons}
 use Rattle.std.specs.Prelude.{All, IfSome, ◌≤◌}
 use Rattle.std.proofs.lemmas.List.{take-append-drop}
-use Rattle.scp_types.specs.declared.limits.TheConstants.{SCRIPT_LIMIT}
+use Rattle.scp_turn.specs.scp_types.specs.declared.limits.TheConstants.{SCRIPT_LIMIT}
 use Rattle.scp_turn.specs.scp_core.specs.Kv.{TheoremGivesLedger}
 use Rattle.scp_turn.specs.Kv.{Noting}
 use Rattle.scp_turn.specs.Heard.{Heard, past_at}
 use Rattle.scp_turn.specs.Network.{NetworkView}
-use Rattle.scp_script.specs.declared.command.Command.{Command}
-use Rattle.scp_script.specs.Script.{AreAdmitted, IsScript, commands_in}
-use Rattle.scp_script.specs.Nodes.{NamesNodes}
+use Rattle.scp_report.specs.scp_script.specs.declared.command.Command.{Command}
+use Rattle.scp_report.specs.scp_script.specs.Script.{AreAdmitted, IsScript, commands_in}
+use Rattle.scp_report.specs.scp_script.specs.Nodes.{NamesNodes}
 use Rattle.scp_report.specs.Node.{reports_of}
 use Rattle.scp_report.specs.Reports.{settled_text}
 use Rattle.scp_line.specs.Play.{ArePlayed, AreReports, Overflows, driven_in}

@@ -2,10 +2,10 @@
 use Rattle.std.proofs.Common.{◌≡◌, ◌<◌, ◌≤◌, ◌+◌, ◌-◌, ℕ, zero, suc, List, [], ◌∷◌, ◌++◌, map, length, get_or, refl, sym, ◌∙◌, ap, arith, ⊎_elim}
 use Rattle.std.proofs.lemmas.List.{get_or-map, get_or_append_left, get_or_push, length-append, length-map, map_push}
 use Rattle.std.proofs.lemmas.Bool.{cases_eq}
-use Rattle.scp_quorum.specs.QuorumTree.{QuorumTree}
-use Rattle.scp_script.specs.declared.command.Command.{Command}
-use Rattle.scp_script.specs.Script.{node_count}
-use Rattle.scp_script.specs.Nodes.{numbers, set_at}
+use Rattle.scp_turn.specs.scp_quorum.specs.QuorumTree.{QuorumTree}
+use Rattle.scp_report.specs.scp_script.specs.declared.command.Command.{Command}
+use Rattle.scp_report.specs.scp_script.specs.Script.{node_count}
+use Rattle.scp_report.specs.scp_script.specs.Nodes.{numbers, set_at}
 use Rattle.scp_line.specs.Left.{sets_in}
 
 -- one node more

@@ -3,12 +3,12 @@ use Rattle.std.proofs.Common.{◌≡◌, ◌≢◌, ◌<◌, ◌≤◌, ◌+◌,
 use Rattle.std.specs.Prelude.{All, fold}
 use Rattle.std.proofs.lemmas.Bool.Decides.{nat_tests}
 use Rattle.std.proofs.lemmas.List.Elements.{All-head, All-tail}
-use Rattle.scp_types.specs.declared.limits.TheConstants.{NODE_LIMIT}
-use Rattle.scp_script.specs.declared.command.Command.{Command}
-use Rattle.scp_script.specs.declared.command.Command.TheVariants as script
-use Rattle.scp_script.specs.Script.{counted, node_count, Admits, AreAdmitted}
-use Rattle.scp_script.specs.Nodes.{NamesNodes}
-use Rattle.scp_script.proofs.Admitted.{admitted_front, admitted_rest, count_stays, names_at}
+use Rattle.scp_turn.specs.scp_types.specs.declared.limits.TheConstants.{NODE_LIMIT}
+use Rattle.scp_report.specs.scp_script.specs.declared.command.Command.{Command}
+use Rattle.scp_report.specs.scp_script.specs.declared.command.Command.TheVariants as script
+use Rattle.scp_report.specs.scp_script.specs.Script.{counted, node_count, Admits, AreAdmitted}
+use Rattle.scp_report.specs.scp_script.specs.Nodes.{NamesNodes}
+use Rattle.scp_report.specs.scp_script.proofs.Admitted.{admitted_front, admitted_rest, count_stays, names_at}
 use Rattle.scp_turn.specs.Rounds.{link_of}
 
 -- where a command stands in a script

@@ -5,18 +5,18 @@ use Rattle.std.proofs.lemmas.Bool.{eqb-true, eqb-false}
 use Rattle.std.proofs.lemmas.Bool.Decides.{nat_tests}
 use Rattle.std.proofs.lemmas.List.{map-set}
 use Rattle.std.proofs.lemmas.List.Sums.{fold-append}
-use Rattle.scp_wire.specs.Shape.{Tail}
-use Rattle.scp_wire.specs.declared.link.Command.{Command as Local}
-use Rattle.scp_wire.specs.declared.link.Command.TheVariants.{Propose, Round, Timer, Tick, Ask}
+use Rattle.scp_turn.specs.scp_wire.specs.Shape.{Tail}
+use Rattle.scp_turn.specs.scp_wire.specs.declared.link.Command.{Command as Local}
+use Rattle.scp_turn.specs.scp_wire.specs.declared.link.Command.TheVariants.{Propose, Round, Timer, Tick, Ask}
 use Rattle.scp_turn.specs.scp_core.specs.declared.event.Event.{Event}
 use Rattle.scp_turn.specs.scp_core.specs.declared.event.Event.TheVariants as event
 use Rattle.scp_turn.specs.scp_core.specs.Node.{LinkView, Accepts, with_link}
 use Rattle.scp_turn.specs.scp_core.specs.Kv.{NodeView}
 use Rattle.scp_turn.specs.Rounds.{link_of}
-use Rattle.scp_script.specs.declared.command.Command.{Command}
-use Rattle.scp_script.specs.declared.command.Command.TheVariants as script
-use Rattle.scp_script.specs.Script.{opens, closes, is_open, lives}
-use Rattle.scp_script.specs.Nodes.{NamesNodes}
+use Rattle.scp_report.specs.scp_script.specs.declared.command.Command.{Command}
+use Rattle.scp_report.specs.scp_script.specs.declared.command.Command.TheVariants as script
+use Rattle.scp_report.specs.scp_script.specs.Script.{opens, closes, is_open, lives}
+use Rattle.scp_report.specs.scp_script.specs.Nodes.{NamesNodes}
 use Rattle.scp_line.specs.Play.{event_by}
 use Rattle.scp_line.specs.Links.{tail_at, tails, tail_said}
 use Rattle.scp_line.proofs.Places.{set_here, set_there, map_at}

@@ -1,16 +1,16 @@
 -- What is reported of a script that was played in threads.
 use Rattle.std.proofs.Common.{◌≡◌, ◌≢◌, ◌≤◌, ℕ, List, [], ◌⊎◌, inl, inr, ⊎_elim, ◌∙◌, sym, subst, arith}
-use Rattle.scp_types.specs.declared.limits.TheConstants.{NODE_LIMIT}
-use Rattle.scp_types.specs.declared.fault.Fault.{Fault}
-use Rattle.scp_types.specs.declared.fault.Fault.TheVariants.{NoMemory, Malformed, TooLong, Insane, Full, NotOpen, AlreadyOpen, LivesSpent, BadConfig, Failed, JournalFull, BadScript, Refused, Device}
+use Rattle.scp_turn.specs.scp_types.specs.declared.limits.TheConstants.{NODE_LIMIT}
+use Rattle.scp_turn.specs.scp_types.specs.declared.fault.Fault.{Fault}
+use Rattle.scp_turn.specs.scp_types.specs.declared.fault.Fault.TheVariants.{NoMemory, Malformed, TooLong, Insane, Full, NotOpen, AlreadyOpen, LivesSpent, BadConfig, Failed, JournalFull, BadScript, Refused, Device}
 use Rattle.scp_threaded_script.specs.scp_gather.specs.Kv.{NodeReport}
-use Rattle.scp_types.specs.declared.fault.Stage.{Stage}
-use Rattle.scp_types.specs.declared.fault.Stage.TheVariants.{Reader, Pend, Slot, Apply}
+use Rattle.scp_turn.specs.scp_types.specs.declared.fault.Stage.{Stage}
+use Rattle.scp_turn.specs.scp_types.specs.declared.fault.Stage.TheVariants.{Reader, Pend, Slot, Apply}
 use Rattle.scp_threaded_script.specs.declared.running.NodeFault.{NodeFault}
 use Rattle.scp_threaded_script.specs.Reported.{AreNodesReported, IsGivenUp, IsLineFault}
 use Rattle.scp_threaded_script.proofs.Ending.{IsOfNodes, given_up_by_nodes}
-use Rattle.scp_script.specs.declared.command.Command.{Command}
-use Rattle.scp_script.specs.Script.{IsScript, commands_in, node_count}
+use Rattle.scp_report.specs.scp_script.specs.declared.command.Command.{Command}
+use Rattle.scp_report.specs.scp_script.specs.Script.{IsScript, commands_in, node_count}
 use Rattle.scp_line.specs.Left.{reports_left}
 use Rattle.scp_report.specs.Reports.{settled_text}
 use Rattle.scp_line.specs.Play.{IsNamed}

@@ -1,8 +1,8 @@
 -- Which line a fate of a command is of (this project's profile).
 use Rattle.std.specs.Prelude.{ℕ, ◌+◌, ◌≡◌, List, [], Some, flat_map, slice_get}
-use Rattle.scp_wire.specs.declared.link.Command.{Command as LocalCommand}
-use Rattle.scp_pending.specs.Endings.{commands_in}
-use Rattle.scp_ledger.specs.Runs.{Taking}
+use Rattle.scp_turn.specs.scp_wire.specs.declared.link.Command.{Command as LocalCommand}
+use Rattle.scp_turn.specs.scp_pending.specs.Endings.{commands_in}
+use Rattle.scp_turn.specs.scp_ledger.specs.Runs.{Taking}
 use Rattle.scp_turn.specs.Commands.{TakenCommand, command_taken, commands_taken, fates_taken, given_in, AreInTurn}
 use Rattle.scp_turn.specs.scp_core.specs.Kv.{NodeView, LedgerTheorem}
 use Rattle.scp_turn.specs.Kv.{Does, taken_over}
@@ -10,9 +10,9 @@ use Rattle.scp_turn.specs.Heard.{Nodes, Heard, past_at}
 use Rattle.scp_threaded_script.specs.scp_gather.specs.Kv.{Left, NodeReport, AreFatesOf}
 use Rattle.scp_threaded_script.specs.Lines.{commands_for}
 use Rattle.scp_threaded_script.specs.Reported.{AreNodesReported}
-use Rattle.scp_script.specs.declared.command.Command.{Command}
-use Rattle.scp_script.specs.Nodes.{id_of, peers_of, set_at}
-use Rattle.scp_script.specs.Script.{node_count}
+use Rattle.scp_report.specs.scp_script.specs.declared.command.Command.{Command}
+use Rattle.scp_report.specs.scp_script.specs.Nodes.{id_of, peers_of, set_at}
+use Rattle.scp_report.specs.scp_script.specs.Script.{node_count}
 use Rattle.scp_line.specs.Play.{ArePlayed}
 
 -- the commands that the lines give to the node of this number, in the order of the lines; a tick has no fate, and is left out

@@ -9,9 +9,9 @@ use Rattle.scp_threaded_script.specs.scp_threaded_node.specs.Ended.{AreSentBy}
 use Rattle.scp_threaded_script.specs.scp_threaded_node.specs.Seats.{Each}
 use Rattle.scp_threaded_script.specs.Lines.{driven_to, items_to}
 use Rattle.scp_threaded_script.specs.Reported.{AreNodesReported, AreStood}
-use Rattle.scp_script.specs.declared.command.Command.{Command}
-use Rattle.scp_script.specs.Script.{commands_in, node_count}
-use Rattle.scp_script.specs.Nodes.{id_of, peers_of, set_at}
+use Rattle.scp_report.specs.scp_script.specs.declared.command.Command.{Command}
+use Rattle.scp_report.specs.scp_script.specs.Script.{commands_in, node_count}
+use Rattle.scp_report.specs.scp_script.specs.Nodes.{id_of, peers_of, set_at}
 use Rattle.scp_line.specs.Left.{reports_left}
 use Rattle.scp_report.specs.Node.{reports_of}
 use Rattle.scp_report.specs.Reports.{settled_text}

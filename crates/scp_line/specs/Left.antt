@@ -2,16 +2,16 @@
 use Rattle.std.specs.Prelude.{ℕ, ◌+◌, List, [], ◌∷◌, None, fold, get_or, length, map}
 use Rattle.std.specs.FinMap as finite
 use Rattle.std.specs.BTreeSet.{insert_key}
-use Rattle.scp_types.specs.declared.names.ConnId.{ConnId}
-use Rattle.scp_types.specs.declared.names.NodeId.{NodeId}
-use Rattle.scp_types.specs.Order.{conn_cmp}
-use Rattle.scp_quorum.specs.QuorumTree.{QuorumTree}
-use Rattle.scp_wire.specs.declared.carried.Carried.{Carried}
-use Rattle.scp_pending.specs.Messages.{messages_on}
+use Rattle.scp_turn.specs.scp_types.specs.declared.names.ConnId.{ConnId}
+use Rattle.scp_turn.specs.scp_types.specs.declared.names.NodeId.{NodeId}
+use Rattle.scp_turn.specs.scp_types.specs.Order.{conn_cmp}
+use Rattle.scp_turn.specs.scp_quorum.specs.QuorumTree.{QuorumTree}
+use Rattle.scp_turn.specs.scp_wire.specs.declared.carried.Carried.{Carried}
+use Rattle.scp_turn.specs.scp_pending.specs.Messages.{messages_on}
 use Rattle.scp_threaded_script.specs.scp_gather.specs.Kv.{NodeReport}
-use Rattle.scp_script.specs.declared.command.Command.{Command}
-use Rattle.scp_script.specs.Script.{node_count}
-use Rattle.scp_script.specs.Nodes.{id_of, numbers, peers_of, set_at}
+use Rattle.scp_report.specs.scp_script.specs.declared.command.Command.{Command}
+use Rattle.scp_report.specs.scp_script.specs.Script.{node_count}
+use Rattle.scp_report.specs.scp_script.specs.Nodes.{id_of, numbers, peers_of, set_at}
 use Rattle.scp_report.specs.declared.report.LinkReport.{LinkReport}
 use Rattle.scp_report.specs.declared.report.Parked.{Parked}
 use Rattle.scp_report.specs.Report.{ReportView}

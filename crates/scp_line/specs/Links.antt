@@ -1,12 +1,12 @@
 -- The links of a script's nodes, and what its lines say of them.
 use Rattle.std.specs.Prelude.{ℕ, ◌-◌, ◌≤◌, ◌≡◌, ◌≢◌, List, Some, length, map, slice_get}
-use Rattle.scp_wire.specs.Shape.{Tail}
+use Rattle.scp_turn.specs.scp_wire.specs.Shape.{Tail}
 use Rattle.scp_turn.specs.scp_core.specs.Node.{LinkView}
 use Rattle.scp_turn.specs.scp_core.specs.Kv.{NodeView}
 use Rattle.scp_turn.specs.Heard.{Nodes}
 use Rattle.scp_turn.specs.Rounds.{link_of}
-use Rattle.scp_script.specs.declared.command.Command.{Command}
-use Rattle.scp_script.specs.Script.{is_open, lives}
+use Rattle.scp_report.specs.scp_script.specs.declared.command.Command.{Command}
+use Rattle.scp_report.specs.scp_script.specs.Script.{is_open, lives}
 
 -- how often a node's link was opened, and whether it is open
 abbrev pub tail_at : LinkView → Tail

@@ -1,10 +1,10 @@
 -- What the nodes of a script hear from line to line, while the script is played.
 use Rattle.std.specs.Prelude.{ℕ, ◌+◌, ◌<◌, ◌≡◌, ◌≢◌, ◌⊎◌, Bool, true, false, List, Option, Some, None, Result, Ok, Err, length, slice_get}
-use Rattle.scp_types.specs.declared.fault.Fault.TheVariants.{NoMemory, Failed as failing, Full as full}
+use Rattle.scp_turn.specs.scp_types.specs.declared.fault.Fault.TheVariants.{NoMemory, Failed as failing, Full as full}
 use Rattle.scp_turn.specs.scp_core.specs.declared.event.Event.{Event}
 use Rattle.scp_turn.specs.scp_core.specs.declared.event.Reply.{Reply}
 use Rattle.scp_turn.specs.scp_core.specs.declared.event.Reply.TheVariants.{Accepted, Full}
-use Rattle.scp_types.specs.Range.{AreInRange}
+use Rattle.scp_turn.specs.scp_types.specs.Range.{AreInRange}
 use Rattle.scp_turn.specs.scp_core.specs.Kv.{NodeView}
 use Rattle.scp_turn.specs.declared.watch.NoWatch.{NoWatch}
 use Rattle.scp_turn.specs.Watch.{unwatched}
@@ -12,10 +12,10 @@ use Rattle.scp_turn.specs.Kv.{Noting}
 use Rattle.scp_turn.specs.Heard.{Nodes, Heard, Noted, With}
 use Rattle.scp_turn.specs.Rounds.{RestsAs, Breaks, AllRun}
 use Rattle.scp_turn.specs.Network.{Hear, NetworkView}
-use Rattle.scp_script.specs.declared.command.Command.{Command}
-use Rattle.scp_script.specs.declared.command.Command.TheVariants as script
-use Rattle.scp_script.specs.Script.{node_count}
-use Rattle.scp_script.specs.Nodes.{IsSmall, capacities_in}
+use Rattle.scp_report.specs.scp_script.specs.declared.command.Command.{Command}
+use Rattle.scp_report.specs.scp_script.specs.declared.command.Command.TheVariants as script
+use Rattle.scp_report.specs.scp_script.specs.Script.{node_count}
+use Rattle.scp_report.specs.scp_script.specs.Nodes.{IsSmall, capacities_in}
 use Rattle.scp_line.specs.declared.playing.PlayFault.{PlayFault}
 use Rattle.scp_line.specs.Links.{AreLinked}
 use Rattle.scp_line.specs.Play.{AreNew, Answers, ArePlayed, Stops, Overflows, driven_in, event_by, config_of}

@@ -1,11 +1,11 @@
 -- How a fault is reported, and which faults a call may have.
 use Rattle.std.specs.Prelude.{ℕ, List, ◌++◌, codes}
 use Rattle.std.specs.Fmt.{decimal}
-use Rattle.scp_types.specs.declared.fault.Fault.{Fault}
-use Rattle.scp_types.specs.declared.fault.Fault.TheVariants.{NoMemory, Malformed, TooLong, Full, Failed, BadScript, Refused, Device}
-use Rattle.scp_types.specs.declared.fault.Stage.{Stage}
-use Rattle.scp_types.specs.declared.fault.Stage.TheVariants.{Reader, Pend, Slot, Apply}
-use Rattle.scp_types.specs.Fault.{number_of}
+use Rattle.scp_turn.specs.scp_types.specs.declared.fault.Fault.{Fault}
+use Rattle.scp_turn.specs.scp_types.specs.declared.fault.Fault.TheVariants.{NoMemory, Malformed, TooLong, Full, Failed, BadScript, Refused, Device}
+use Rattle.scp_turn.specs.scp_types.specs.declared.fault.Stage.{Stage}
+use Rattle.scp_turn.specs.scp_types.specs.declared.fault.Stage.TheVariants.{Reader, Pend, Slot, Apply}
+use Rattle.scp_turn.specs.scp_types.specs.Fault.{number_of}
 
 -- the word of a stage
 abbrev pub stage_word : Stage → List ℕ

@@ -1,18 +1,18 @@
 -- What playing a script means, and which line shows a message.
 use Rattle.std.specs.Prelude.{ℕ, ◌+◌, ◌-◌, ◌<◌, ◌≤◌, ◌≡◌, ◌⊎◌, Bool, true, List, [], ◌∷◌, ◌++◌, Option, Some, None, Err, flat_map, fold, length, codes, slice_get, get_or, option_map}
 use Rattle.std.specs.Fmt.{decimal}
-use Rattle.scp_types.specs.declared.limits.TheConstants.{NODE_LIMIT}
-use Rattle.scp_types.specs.declared.fault.Fault.{Fault}
-use Rattle.scp_types.specs.declared.fault.Fault.TheVariants.{Malformed, Failed, Refused}
-use Rattle.scp_quorum.specs.QuorumKind.{set_hash}
-use Rattle.scp_envelope.specs.declared.statement.Statement.{Statement}
-use Rattle.scp_envelope.specs.declared.statement.Pledges.{Pledges}
-use Rattle.scp_envelope.specs.declared.statement.Pledges.TheVariants.{Prepare, Confirm, Externalize, Nominate}
-use Rattle.scp_wire.specs.declared.message.Message.{Message}
-use Rattle.scp_wire.specs.declared.message.Message.TheVariants.{Envelope, GetSet, Set, NoSet, GetRecord, Record, Records}
-use Rattle.scp_wire.specs.declared.link.Command.{Command as LocalCommand}
-use Rattle.scp_wire.specs.Message.{message_reading}
-use Rattle.scp_wire.specs.Reading.{reading_of}
+use Rattle.scp_turn.specs.scp_types.specs.declared.limits.TheConstants.{NODE_LIMIT}
+use Rattle.scp_turn.specs.scp_types.specs.declared.fault.Fault.{Fault}
+use Rattle.scp_turn.specs.scp_types.specs.declared.fault.Fault.TheVariants.{Malformed, Failed, Refused}
+use Rattle.scp_turn.specs.scp_quorum.specs.QuorumKind.{set_hash}
+use Rattle.scp_turn.specs.scp_envelope.specs.declared.statement.Statement.{Statement}
+use Rattle.scp_turn.specs.scp_envelope.specs.declared.statement.Pledges.{Pledges}
+use Rattle.scp_turn.specs.scp_envelope.specs.declared.statement.Pledges.TheVariants.{Prepare, Confirm, Externalize, Nominate}
+use Rattle.scp_turn.specs.scp_wire.specs.declared.message.Message.{Message}
+use Rattle.scp_turn.specs.scp_wire.specs.declared.message.Message.TheVariants.{Envelope, GetSet, Set, NoSet, GetRecord, Record, Records}
+use Rattle.scp_turn.specs.scp_wire.specs.declared.link.Command.{Command as LocalCommand}
+use Rattle.scp_turn.specs.scp_wire.specs.Message.{message_reading}
+use Rattle.scp_turn.specs.scp_wire.specs.Reading.{reading_of}
 use Rattle.scp_turn.specs.scp_core.specs.declared.config.Config.{Config}
 use Rattle.scp_turn.specs.scp_core.specs.declared.event.Event.{Event}
 use Rattle.scp_turn.specs.scp_core.specs.declared.event.Event.TheVariants as event
@@ -21,12 +21,12 @@ use Rattle.scp_turn.specs.scp_core.specs.declared.event.Reply.TheVariants.{Accep
 use Rattle.scp_turn.specs.scp_core.specs.Node.{LinkView, is_full}
 use Rattle.scp_turn.specs.scp_core.specs.Kv.{NodeView, LedgerTheorem, HoldsLedger}
 use Rattle.scp_threaded_script.specs.Lines.{local_by}
-use Rattle.scp_script.specs.declared.command.Command.{Command}
-use Rattle.scp_script.specs.declared.command.Command.TheVariants as script
-use Rattle.scp_script.specs.Words.{hex_bytes}
-use Rattle.scp_script.specs.Script.{commands_in, node_count}
-use Rattle.scp_script.specs.Nodes.{id_of, peers_of, set_at, capacities_in}
-use Rattle.scp_words.specs.Words.{hex_word}
+use Rattle.scp_report.specs.scp_script.specs.declared.command.Command.{Command}
+use Rattle.scp_report.specs.scp_script.specs.declared.command.Command.TheVariants as script
+use Rattle.scp_report.specs.scp_script.specs.Words.{hex_bytes}
+use Rattle.scp_report.specs.scp_script.specs.Script.{commands_in, node_count}
+use Rattle.scp_report.specs.scp_script.specs.Nodes.{id_of, peers_of, set_at, capacities_in}
+use Rattle.scp_report.specs.scp_words.specs.Words.{hex_word}
 use Rattle.scp_report.specs.Node.{reports_of}
 use Rattle.scp_report.specs.Reports.{settled_text}
 use Rattle.scp_turn.specs.Heard.{Nodes, Heard, HaveHeard, past_at, Then, IsNothing, IsOne}

@@ -1,7 +1,7 @@
 -- A script that is played line by line, while a watch sees its lines and the steps of its nodes (this project's profile).
 use Rattle.std.specs.Prelude.{ℕ, ◌≤◌, ◌≡◌, ◌≢◌, ◌⊎◌, Bool, List, [], ◌∷◌, ◌++◌, length}
-use Rattle.scp_types.specs.declared.limits.TheConstants.{NODE_LIMIT}
-use Rattle.scp_types.specs.declared.fault.Fault.TheVariants.{NoMemory as no_memory}
+use Rattle.scp_turn.specs.scp_types.specs.declared.limits.TheConstants.{NODE_LIMIT}
+use Rattle.scp_turn.specs.scp_types.specs.declared.fault.Fault.TheVariants.{NoMemory as no_memory}
 use Rattle.scp_turn.specs.scp_core.specs.declared.event.Event.{Event}
 use Rattle.scp_turn.specs.scp_core.specs.declared.event.Reply.{Reply}
 use Rattle.scp_turn.specs.scp_core.specs.Kv.{NodeView}
@@ -10,8 +10,8 @@ use Rattle.scp_turn.specs.Kv.{Noting}
 use Rattle.scp_turn.specs.Heard.{Nodes, Heard, HaveHeard, Noted}
 use Rattle.scp_turn.specs.Rounds.{AllRun}
 use Rattle.scp_turn.specs.Network.{NetworkView}
-use Rattle.scp_script.specs.declared.command.Command.{Command}
-use Rattle.scp_script.specs.Script.{node_count}
+use Rattle.scp_report.specs.scp_script.specs.declared.command.Command.{Command}
+use Rattle.scp_report.specs.scp_script.specs.Script.{node_count}
 use Rattle.scp_line.specs.declared.player.Stopped.{Stopped}
 use Rattle.scp_line.specs.Play.{AreNew, HearsAs, driven_in}
 use Rattle.scp_line.specs.Nodes.{HasPlayed, IsWant, IsStoppedAt}

@@ -1,10 +1,10 @@
 -- What is reported of nodes whose stages ran in threads.
 use Rattle.std.specs.Prelude.{ℕ, ◌≡◌, List, []}
-use Rattle.scp_types.specs.declared.fault.Fault.{Fault}
-use Rattle.scp_types.specs.declared.fault.Fault.TheVariants.{NoMemory, TooLong, Device, Full, NotOpen, BadScript, Refused}
+use Rattle.scp_turn.specs.scp_types.specs.declared.fault.Fault.{Fault}
+use Rattle.scp_turn.specs.scp_types.specs.declared.fault.Fault.TheVariants.{NoMemory, TooLong, Device, Full, NotOpen, BadScript, Refused}
 use Rattle.scp_threaded_script.specs.scp_gather.specs.Kv.{NodeReport}
 use Rattle.scp_threaded_script.specs.Reported.{AreNodesReported, IsGivenUp}
-use Rattle.scp_script.specs.Script.{IsScript, commands_in}
+use Rattle.scp_report.specs.scp_script.specs.Script.{IsScript, commands_in}
 use Rattle.scp_line.specs.Left.{reports_left}
 use Rattle.scp_report.specs.Reports.{settled_text}
 

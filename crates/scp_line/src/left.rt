@@ -1,20 +1,20 @@
 //! The record of a node whose stages ran in threads, made from what these left.
 ghost use Rattle.std.specs.Prelude.{◌≡◌, ◌≤◌, ◌-◌, [], All, IfOk, IsOkUnless, fold, get_or, length, map};
 ghost use Rattle.std.specs.BTreeSet.{insert_key};
-ghost use Rattle.scp_types.specs.declared.limits.TheConstants.{NODE_LIMIT};
-ghost use Rattle.scp_types.specs.Order.{conn_cmp};
-ghost use Rattle.scp_pending.specs.Messages.{is_on, messages_on};
-ghost use Rattle.scp_script.specs.Script.{AreAdmitted, node_count};
-ghost use Rattle.scp_script.specs.Nodes.{NamesNodes, set_at};
+ghost use Rattle.scp_turn.specs.scp_types.specs.declared.limits.TheConstants.{NODE_LIMIT};
+ghost use Rattle.scp_turn.specs.scp_types.specs.Order.{conn_cmp};
+ghost use Rattle.scp_turn.specs.scp_pending.specs.Messages.{is_on, messages_on};
+ghost use Rattle.scp_report.specs.scp_script.specs.Script.{AreAdmitted, node_count};
+ghost use Rattle.scp_report.specs.scp_script.specs.Nodes.{NamesNodes, set_at};
 ghost use Rattle.scp_report.specs.Report.{view_of};
 ghost use Rattle.scp_line.specs.Left.{conns_waiting, count_on, parked_counts, links_left, report_left as record_left, reports_left as records_left, sets_in};
 
-use scp_quorum::QuorumSet;
+use scp_report::below::script::{Command, count_of_nodes, id_from, peers_of_node, set_of_node};
 use scp_report::{LinkReport, Parked, Report};
-use scp_script::{Command, count_of_nodes, id_from, peers_of_node, set_of_node};
 use scp_threaded_script::NodeReport;
-use scp_types::{ConnId, Fault, NodeId};
-use scp_wire::Carried;
+use scp_turn::below::quorum::QuorumSet;
+use scp_turn::below::types::{ConnId, Fault, NodeId};
+use scp_turn::below::wire::Carried;
 use std::alloc::{AllocError, Global};
 use std::collections::BTreeSet;
 

@@ -22,6 +22,7 @@
 //! Not claimed: what a process's own reader and writer read and write. Their bytes are known only for readers and writers in memory.
 #![tactic(auto)]
 
+pub mod below;
 mod laws;
 mod left;
 mod messages;
@@ -40,7 +41,7 @@ pub use nodes::{act, new_network, played_reports};
 pub use outcome::{line_of_fault, status};
 pub use player::{Stopped, play_lines};
 pub use playing::{PlayFault, check, play, show};
-pub use scp_device::{
+pub use scp_report::below::device::{
     FailsAt, MemoryIn, MemoryOut, Process, ReportOut, ScriptIn, read_script, write_text,
 };
 pub use scp_report::{LinkReport, Parked, Report, reports_of, write_settled};

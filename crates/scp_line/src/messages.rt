@@ -1,14 +1,14 @@
 //! The line that shows a message.
 ghost use Rattle.std.specs.Prelude.{◌≡◌, ◌++◌, IfOk, OnOk, IsOkUnless, string_bytes, codes, flat_map};
-ghost use Rattle.scp_wire.specs.Message.{message_kind, message_value};
-ghost use Rattle.scp_xdr.specs.Kind.{Fits};
-ghost use Rattle.scp_words.specs.Words.{hex_word};
+ghost use Rattle.scp_turn.specs.scp_wire.specs.Message.{message_kind, message_value};
+ghost use Rattle.scp_turn.specs.scp_xdr.specs.Kind.{Fits};
+ghost use Rattle.scp_report.specs.scp_words.specs.Words.{hex_word};
 ghost use Rattle.scp_line.specs.Play.{message_line, pledges_word, statement_words, value_word};
 
-use scp_envelope::{Pledges, Statement, ValueList};
-use scp_types::{Fault, Hash, Slot, Value};
-use scp_wire::Message;
-use scp_words::write_hex;
+use scp_report::below::words::write_hex;
+use scp_turn::below::envelope::{Pledges, Statement, ValueList};
+use scp_turn::below::types::{Fault, Hash, Slot, Value};
+use scp_turn::below::wire::Message;
 use std::alloc::{AllocError, Global};
 
 fn word_of_pledges(pledges: &Pledges) -> &'static str

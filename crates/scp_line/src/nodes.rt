@@ -1,8 +1,8 @@
 //! The nodes of a script, and what its lines do to them.
 ghost use Rattle.std.specs.Prelude.{◌≡◌, ◌≢◌, ◌⊎◌, ◌≤◌, ◌++◌, [], ℕ, List, All, OnOk, IfOk, IfErr, IfSome, IsOkUnless, string_bytes, length};
-ghost use Rattle.scp_types.specs.declared.limits.TheConstants.{NODE_LIMIT};
-ghost use Rattle.scp_script.specs.Script.{AreAdmitted, node_count};
-ghost use Rattle.scp_script.specs.Nodes.{NamesNodes, IsSmall};
+ghost use Rattle.scp_turn.specs.scp_types.specs.declared.limits.TheConstants.{NODE_LIMIT};
+ghost use Rattle.scp_report.specs.scp_script.specs.Script.{AreAdmitted, node_count};
+ghost use Rattle.scp_report.specs.scp_script.specs.Nodes.{NamesNodes, IsSmall};
 ghost use Rattle.scp_report.specs.Node.{reports_of as records_of};
 ghost use Rattle.scp_report.specs.Reports.{settled_text};
 ghost use Rattle.scp_turn.specs.scp_core.specs.Config.{IsConfig};
@@ -15,11 +15,13 @@ ghost use Rattle.scp_line.specs.inside.Nodes.{IsPlayed, IsStopped};
 use crate::player::play_lines;
 use crate::playing::PlayFault;
 use crate::watch::Nobody;
+use scp_report::below::script::{
+    Command, capacities_of, count_of_nodes, id_from, peers_of_node, set_of_node,
+};
 use scp_report::{reports_of, settled_report};
-use scp_script::{Command, capacities_of, count_of_nodes, id_from, peers_of_node, set_of_node};
 use scp_threaded_script::command_of;
+use scp_turn::below::types::Fault;
 use scp_turn::{Config, Event, KvDriver, Network, NoWatch, Node, Peers, Reply, Watch, link_of};
-use scp_types::Fault;
 use std::alloc::{AllocError, Global};
 
 /// Who the node of this number is, and what its queues hold. The one refusal is `NoMemory`.

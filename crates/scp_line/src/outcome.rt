@@ -2,7 +2,7 @@
 ghost use Rattle.std.specs.Prelude.{◌≡◌, IfOk, string_bytes};
 ghost use Rattle.scp_line.specs.Outcome.{stage_word, fault_line, status_of};
 
-use scp_types::{Fault, Stage};
+use scp_turn::below::types::{Fault, Stage};
 use std::alloc::{AllocError, Global};
 
 fn word_of_stage(stage: Stage) -> &'static str

@@ -1,14 +1,14 @@
 //! The player of scripts.
 ghost use Rattle.std.specs.Prelude.{◌≡◌, ◌<◌, [], All, OnOk, IfErr, get_or, length};
-ghost use Rattle.scp_script.specs.Script.{AreAdmitted};
-ghost use Rattle.scp_script.specs.Nodes.{NamesNodes};
+ghost use Rattle.scp_report.specs.scp_script.specs.Script.{AreAdmitted};
+ghost use Rattle.scp_report.specs.scp_script.specs.Nodes.{NamesNodes};
 ghost use Rattle.scp_line.specs.Nodes.{AreMade};
 ghost use Rattle.scp_line.specs.Player.{lining, IsRun, IsStoppedBy};
 
 use crate::nodes::act_with;
 use crate::playing::PlayFault;
 use crate::watch::LineWatch;
-use scp_script::Command;
+use scp_report::below::script::Command;
 use scp_turn::Network;
 
 /// The number of the line at which a script stopped, and the reason.

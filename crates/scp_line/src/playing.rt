@@ -1,12 +1,12 @@
 //! Playing a script, checking a script, showing a message.
 ghost use Rattle.std.specs.Prelude.{◌≡◌, ◌≢◌, ◌++◌, IsOkUnless, ◌⊎◌, ◌<◌, ◌≤◌, ℕ, List, length, IfOk, IfErr, IfSome, OnOk, IsErrOf, Some, Err, string_bytes, codes};
-ghost use Rattle.scp_types.specs.declared.fault.Fault.TheVariants.{BadScript};
-ghost use Rattle.scp_wire.specs.Reading.{reading_of};
-ghost use Rattle.scp_wire.specs.Message.{message_kind, message_value, message_reading};
-ghost use Rattle.scp_xdr.specs.Kind.{Fits};
-ghost use Rattle.scp_xdr.specs.Words.{IsReadingFault};
-ghost use Rattle.scp_device.specs.Device.{Gains, GainsPart, Fails, IsAll};
-ghost use Rattle.scp_script.specs.Script.{IsScript, IsBadLine, HasNoBadLine, HasSetLine, commands_in};
+ghost use Rattle.scp_turn.specs.scp_types.specs.declared.fault.Fault.TheVariants.{BadScript};
+ghost use Rattle.scp_turn.specs.scp_wire.specs.Reading.{reading_of};
+ghost use Rattle.scp_turn.specs.scp_wire.specs.Message.{message_kind, message_value, message_reading};
+ghost use Rattle.scp_turn.specs.scp_xdr.specs.Kind.{Fits};
+ghost use Rattle.scp_turn.specs.scp_xdr.specs.Words.{IsReadingFault};
+ghost use Rattle.scp_report.specs.scp_device.specs.Device.{Gains, GainsPart, Fails, IsAll};
+ghost use Rattle.scp_report.specs.scp_script.specs.Script.{IsScript, IsBadLine, HasNoBadLine, HasSetLine, commands_in};
 ghost use Rattle.scp_line.specs.Headlines.{AreHeadlined};
 ghost use Rattle.scp_line.specs.Outcome.{IsCheckFault, IsPlayFault};
 ghost use Rattle.scp_line.specs.Play.{AreReports, Stops, Overflows, IsShown, IsUnread, IsNamed};
@@ -14,11 +14,11 @@ ghost use Rattle.scp_line.specs.Play.{AreReports, Stops, Overflows, IsShown, IsU
 use crate::laws::what_is_played_keeps_the_headlines;
 use crate::messages::line_of;
 use crate::nodes::{new_network, play_alone, played_reports};
-use scp_device::{ReportOut, ScriptIn, read_script, write_text};
-use scp_script::{bytes_of, parse};
+use scp_report::below::device::{ReportOut, ScriptIn, read_script, write_text};
+use scp_report::below::script::{bytes_of, parse};
+use scp_turn::below::types::{Fault, SCRIPT_LIMIT};
+use scp_turn::below::wire::{Message, decode};
 use scp_turn::{KvDriver, each_node_holds_its_ledger};
-use scp_types::{Fault, SCRIPT_LIMIT};
-use scp_wire::{Message, decode};
 use std::alloc::Global;
 
 /// Why a call was refused, and the number of the node that the fault line names, or 0.

@@ -1,10 +1,10 @@
 //! Playing a script with nodes whose stages run in threads.
 ghost use Rattle.std.specs.Prelude.{◌≡◌, ◌≢◌, ◌⊎◌, ◌≤◌, ◌<◌, ℕ, List, [], All, length, IfOk, IfErr, IfSome, IsOkUnless, OnOk, string_bytes};
-ghost use Rattle.scp_types.specs.declared.fault.Fault.TheVariants.{BadScript};
-ghost use Rattle.scp_types.specs.declared.fault.Stage.{Stage};
-ghost use Rattle.scp_device.specs.Device.{Gains, GainsPart, Fails, IsAll};
-ghost use Rattle.scp_script.specs.Script.{AreAdmitted, node_count, IsScript, IsBadLine, HasNoBadLine, HasSetLine};
-ghost use Rattle.scp_script.specs.Nodes.{NamesNodes};
+ghost use Rattle.scp_turn.specs.scp_types.specs.declared.fault.Fault.TheVariants.{BadScript};
+ghost use Rattle.scp_turn.specs.scp_types.specs.declared.fault.Stage.{Stage};
+ghost use Rattle.scp_report.specs.scp_device.specs.Device.{Gains, GainsPart, Fails, IsAll};
+ghost use Rattle.scp_report.specs.scp_script.specs.Script.{AreAdmitted, node_count, IsScript, IsBadLine, HasNoBadLine, HasSetLine};
+ghost use Rattle.scp_report.specs.scp_script.specs.Nodes.{NamesNodes};
 ghost use Rattle.scp_threaded_script.specs.Reported.{AreNodesReported, AreAllKept, IsGivenUp};
 ghost use Rattle.scp_threaded_script.specs.Waits.{AreWaits};
 ghost use Rattle.scp_line.specs.Left.{reports_left as records_left};
@@ -17,12 +17,12 @@ ghost use Rattle.scp_line.specs.Threads.{AreGatheredReports, AreGivenUp, IsOfThe
 use crate::laws::what_is_played_keeps_the_headlines;
 use crate::left::{reports_left, sets_of};
 use crate::playing::PlayFault;
-use scp_device::{ReportOut, ScriptIn, read_script, write_text};
-use scp_ends::{Gate, Open};
+use scp_report::below::device::{ReportOut, ScriptIn, read_script, write_text};
+use scp_report::below::script::{Command, count_of_nodes, parse};
 use scp_report::settled_report;
-use scp_script::{Command, count_of_nodes, parse};
+use scp_threaded_script::below::ends::{Gate, Open};
 use scp_threaded_script::{NodeFault, NodeReport, Ran, run_lines};
-use scp_types::{Fault, SCRIPT_LIMIT};
+use scp_turn::below::types::{Fault, SCRIPT_LIMIT};
 use std::alloc::Global;
 use std::sync::Wait;
 use std::thread::Threads;

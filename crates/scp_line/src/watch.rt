@@ -1,6 +1,6 @@
 //! Watches of a script's lines and of its nodes' steps.
 
-use scp_script::Command;
+use scp_report::below::script::Command;
 use scp_turn::{Event, KvDriver, Node, Reply, Watch};
 
 /// A watch that sees each line of a script that is played, and each step of its nodes. It can't refuse a line: a watch that is out of memory
@@ -8,8 +8,8 @@ use scp_turn::{Event, KvDriver, Node, Reply, Watch};
 pub trait LineWatch: Watch<KvDriver> {
     ghost use Rattle.std.specs.Prelude.{ℕ, Bool};
     ghost use Rattle.scp_turn.specs.Heard.{Nodes};
-    ghost use Rattle.scp_script.specs.declared.command.Command.{Command};
-    ghost use Rattle.scp_script.specs.Nodes.{NamesNodes};
+    ghost use Rattle.scp_report.specs.scp_script.specs.declared.command.Command.{Command};
+    ghost use Rattle.scp_report.specs.scp_script.specs.Nodes.{NamesNodes};
     ghost use Rattle.scp_line.specs.Player.{ArePlaying};
 
     /// What it notes before a line: from the line's number, its command and the nodes.

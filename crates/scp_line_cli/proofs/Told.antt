@@ -1,16 +1,16 @@
 -- What was told, after a call that was refused.
 use Rattle.std.proofs.Common.{◌≡◌, ◌≢◌, ◌⊎◌, ◌≤◌, inl, inr, ℕ, List, Option, refl, sym, subst, arith}
-use Rattle.scp_types.specs.declared.fault.Fault.{Fault}
-use Rattle.scp_types.specs.declared.fault.Fault.TheVariants.{NoMemory, Malformed, TooLong, Insane, Full, NotOpen, AlreadyOpen, LivesSpent, BadConfig, Failed, JournalFull, BadScript, Refused, Device}
-use Rattle.scp_device.specs.Device.{Gains, Fails}
+use Rattle.scp_line.specs.scp_types.specs.declared.fault.Fault.{Fault}
+use Rattle.scp_line.specs.scp_types.specs.declared.fault.Fault.TheVariants.{NoMemory, Malformed, TooLong, Insane, Full, NotOpen, AlreadyOpen, LivesSpent, BadConfig, Failed, JournalFull, BadScript, Refused, Device}
+use Rattle.scp_line.specs.scp_device.specs.Device.{Gains, Fails}
 use Rattle.scp_line.specs.declared.playing.PlayFault.{PlayFault}
 use Rattle.std.specs.Prelude.{Result, Ok, Err, OnOk, OnErr, IfSome, length, ◌<◌}
-use Rattle.scp_types.specs.declared.limits.TheConstants.{SCRIPT_LIMIT}
-use Rattle.scp_script.specs.Script.{IsScript, IsBadLine, commands_in}
+use Rattle.scp_line.specs.scp_types.specs.declared.limits.TheConstants.{SCRIPT_LIMIT}
+use Rattle.scp_line.specs.scp_script.specs.Script.{IsScript, IsBadLine, commands_in}
 use Rattle.scp_line.specs.Outcome.{status_of, IsCheckFault, IsPlayFault}
 use Rattle.scp_line.specs.Play.{IsNamed, Stops, Overflows}
 use Rattle.scp_line.specs.Threads.{IsThreadsFault, IsOfTheNodes, AreGivenUp}
-use Rattle.scp_types.specs.declared.fault.Stage.{Stage}
+use Rattle.scp_line.specs.scp_types.specs.declared.fault.Stage.{Stage}
 use Rattle.scp_line_cli.specs.inside.Serving.{IsWritten, IsTold, IsUnplayed, IsUnplayedInThreads}
 
 pub status_is : (fault : Fault) → (status_of fault ≡ 1) ⊎ (status_of fault ≡ 3)

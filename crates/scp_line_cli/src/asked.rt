@@ -3,7 +3,7 @@ ghost use Rattle.std.specs.Prelude.{◌≡◌, IsOkUnless, IfErr};
 
 use clap::error::ErrorKind;
 use clap::{Arg, ArgAction, Command, Error};
-use scp_types::Fault;
+use scp_line::below::types::Fault;
 use std::alloc::{AllocError, Global};
 
 /// How a script is played.

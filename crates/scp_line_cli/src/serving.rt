@@ -1,19 +1,19 @@
 //! What the program does with what the words of a command line ask for.
 ghost use Rattle.std.specs.Prelude.{◌≡◌, ◌≢◌, ◌≤◌, ◌⊎◌, ◌++◌, ℕ, List, length, OnOk, OnErr, codes};
-ghost use Rattle.scp_device.specs.Device.{Gains, Fails, IsAll};
+ghost use Rattle.scp_line.specs.scp_device.specs.Device.{Gains, Fails, IsAll};
 ghost use Rattle.scp_line.specs.declared.playing.PlayFault.{PlayFault};
 ghost use Rattle.scp_line.specs.Outcome.{stage_word, fault_line, status_of, IsCheckFault};
 ghost use Rattle.scp_line.specs.Play.{AreReports, IsShown, IsNamed, IsUnread};
 ghost use Rattle.scp_line.specs.Threads.{AreGatheredReports};
-ghost use Rattle.scp_script.specs.Script.{IsScript};
+ghost use Rattle.scp_line.specs.scp_script.specs.Script.{IsScript};
 ghost use Rattle.scp_line_cli.specs.inside.Serving.{IsTold, IsWritten, IsUnplayed, IsUnplayedInThreads};
 
 use crate::asked::{Asked, Mode, read_words};
-use scp_device::write_numbered;
+use scp_line::below::device::write_numbered;
+use scp_line::below::types::{Fault, SCRIPT_LIMIT, Stage};
 use scp_line::{
     PlayFault, ReportOut, ScriptIn, check, play, play_in_threads, show, status, write_text,
 };
-use scp_types::{Fault, SCRIPT_LIMIT, Stage};
 use std::alloc::Global;
 use std::sync::Wait;
 use std::thread::Threads;

@@ -5,8 +5,8 @@ use Rattle.std.proofs.lemmas.List.{take_more}
 use Rattle.std.specs.Prelude.{flat_map}
 use Rattle.std.specs.List.{AllZip}
 use Rattle.std.proofs.lemmas.Grind.{flat_map-append}
-use Rattle.scp_wire.specs.declared.message.Message.{Message}
-use Rattle.scp_wire.specs.Message.{message_value, SpellsMessage}
+use Rattle.scp_again.specs.scp_wire.specs.declared.message.Message.{Message}
+use Rattle.scp_again.specs.scp_wire.specs.Message.{message_value, SpellsMessage}
 use Rattle.scp_live_lines.specs.Sent.{again_line}
 use Rattle.scp_live.specs.Again.{SaysAgain}
 

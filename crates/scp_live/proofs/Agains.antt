@@ -1,18 +1,18 @@
 -- Two ledgers that show the same send the same once more.
 use Rattle.std.proofs.Common.{◌≡◌, ℕ, zero, suc, ◌+◌, ◌^◌, Bool, List, [], ◌∷◌, ◌++◌, refl, ◌∙◌, ap}
 use Rattle.std.specs.Prelude.{Option, Some, None, nat_lt, if◌then◌else◌}
-use Rattle.scp_types.specs.declared.names.NodeId.{NodeId}
-use Rattle.scp_wire.specs.declared.message.Message.{Message}
-use Rattle.scp_wire.specs.declared.message.Message.TheVariants.{GetRecord}
-use Rattle.scp_nominate.specs.Nomination as nominate
-use Rattle.scp_slot.specs.declared.machine.SlotMachine.{SlotMachine}
-use Rattle.scp_slot.specs.Slot.{slot_view}
-use Rattle.scp_ledger.specs.declared.journal.Asking.{Asking}
-use Rattle.scp_ledger.specs.declared.journal.Decision.{Decision}
-use Rattle.scp_ledger.specs.Kv.{KvLedger}
-use Rattle.scp_ledger.specs.Seen.{machine_at, is_asked}
-use Rattle.scp_driver.specs.declared.kv_driver.KvDriver.{KvDriver}
-use Rattle.scp_core.specs.Same.{ShowSameMachine, ShowSameLedger}
+use Rattle.scp_again.specs.scp_types.specs.declared.names.NodeId.{NodeId}
+use Rattle.scp_again.specs.scp_wire.specs.declared.message.Message.{Message}
+use Rattle.scp_again.specs.scp_wire.specs.declared.message.Message.TheVariants.{GetRecord}
+use Rattle.scp_again.specs.scp_nominate.specs.Nomination as nominate
+use Rattle.scp_again.specs.scp_slot.specs.declared.machine.SlotMachine.{SlotMachine}
+use Rattle.scp_again.specs.scp_slot.specs.Slot.{slot_view}
+use Rattle.scp_again.specs.scp_ledger.specs.declared.journal.Asking.{Asking}
+use Rattle.scp_again.specs.scp_ledger.specs.declared.journal.Decision.{Decision}
+use Rattle.scp_again.specs.scp_ledger.specs.Kv.{KvLedger}
+use Rattle.scp_again.specs.scp_ledger.specs.Seen.{machine_at, is_asked}
+use Rattle.scp_again.specs.scp_driver.specs.declared.kv_driver.KvDriver.{KvDriver}
+use Rattle.scp_again.specs.scp_core.specs.Same.{ShowSameMachine, ShowSameLedger}
 use Rattle.scp_again.specs.Again.{own_messages, emitted_by, decided_again, asked_for, again_at, slots_again, again_of}
 
 same_emitted : (me : NodeId) (slot : ℕ) (o p : Option (SlotMachine KvDriver)) → ShowSameMachine o p → emitted_by me slot o ≡ emitted_by me slot p

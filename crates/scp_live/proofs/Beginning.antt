@@ -1,12 +1,12 @@
 -- A node that was made of settings, and the first line of its log.
 use Rattle.std.proofs.Common.{◌≡◌, ℕ, List, [], ◌∷◌, ◌++◌, sym, ◌∙◌, ap, false, subst, append_assoc, refl, inl, inr, ⊎_elim}
 use Rattle.std.specs.Prelude.{◌⊎◌, ◌↔◌, Result, Ok, Err, IfOk, IfErr, map, codes}
-use Rattle.scp_types.specs.declared.fault.Fault.TheVariants.{BadConfig, NoMemory}
-use Rattle.scp_core.specs.Config.{IsConfigOfMany}
+use Rattle.scp_again.specs.scp_types.specs.declared.fault.Fault.TheVariants.{BadConfig, NoMemory}
+use Rattle.scp_again.specs.scp_core.specs.Config.{IsConfigOfMany}
 use Rattle.hex.specs.Hex.{encode_lower}
-use Rattle.scp_types.specs.declared.fault.Fault.{Fault}
-use Rattle.scp_core.specs.declared.config.Config.{Config}
-use Rattle.scp_core.specs.Kv.{LedgerTheorem}
+use Rattle.scp_again.specs.scp_types.specs.declared.fault.Fault.{Fault}
+use Rattle.scp_again.specs.scp_core.specs.declared.config.Config.{Config}
+use Rattle.scp_again.specs.scp_core.specs.Kv.{LedgerTheorem}
 use Rattle.scp_live_config.specs.Names.{Identity}
 use Rattle.scp_live_config.specs.declared.settings.Settings.{Settings}
 use Rattle.scp_live_log.specs.Log.{IsLine}

@@ -1,9 +1,9 @@
 -- A node that heard more, and then more again.
 use Rattle.std.proofs.Common.{◌≡◌, Bool, true, false, List, [], ◌∷◌, ◌++◌, refl, sym, ◌∙◌, ap, subst, append_assoc, append-nil, ℕ}
 use Rattle.std.specs.Prelude.{◌||◌}
-use Rattle.scp_core.specs.History.{Exchange}
-use Rattle.scp_core.specs.Kv.{NodeView, LedgerTheorem}
-use Rattle.scp_driver.specs.Kv.{kv_says}
+use Rattle.scp_again.specs.scp_core.specs.History.{Exchange}
+use Rattle.scp_again.specs.scp_core.specs.Kv.{NodeView, LedgerTheorem}
+use Rattle.scp_again.specs.scp_driver.specs.Kv.{kv_says}
 use Rattle.scp_turn.specs.Kv.{Does, Goes, Noting, Watched}
 use Rattle.scp_turn.specs.Episode.{finds_full, is_full_reply}
 use Rattle.scp_turn.proofs.Causes.{clash, fell}

@@ -1,16 +1,16 @@
 -- Two nodes with one past have the same episodes of the same events.
 use Rattle.std.proofs.Common.{◌≡◌, ℕ, zero, suc, false, List, [], ◌∷◌, ◌++◌, refl, sym, ◌∙◌, ap, subst, append_assoc}
 use Rattle.std.specs.Prelude.{replicate, slice_get, if◌then◌else◌}
-use Rattle.scp_driver.specs.Kv.{kv_says}
-use Rattle.scp_wire.specs.declared.message.Message.{Message}
-use Rattle.scp_outbox.specs.Handing.{waiting_at}
-use Rattle.scp_core.specs.declared.event.Event.{Event}
-use Rattle.scp_core.specs.declared.event.Event.TheVariants as event
-use Rattle.scp_core.specs.declared.event.Reply.{Reply}
-use Rattle.scp_core.specs.declared.event.Reply.TheVariants.{Failed, NoLink, AlreadyOpen, LivesSpent, NotOpen, Full, Accepted, Blocked, Idle, Moved, Sent, JournalFull, NoMemory}
-use Rattle.scp_core.specs.History.{Exchange}
-use Rattle.scp_core.specs.Node.{accepts_of}
-use Rattle.scp_core.specs.Kv.{NodeView, LedgerTheorem}
+use Rattle.scp_again.specs.scp_driver.specs.Kv.{kv_says}
+use Rattle.scp_again.specs.scp_wire.specs.declared.message.Message.{Message}
+use Rattle.scp_again.specs.scp_outbox.specs.Handing.{waiting_at}
+use Rattle.scp_again.specs.scp_core.specs.declared.event.Event.{Event}
+use Rattle.scp_again.specs.scp_core.specs.declared.event.Event.TheVariants as event
+use Rattle.scp_again.specs.scp_core.specs.declared.event.Reply.{Reply}
+use Rattle.scp_again.specs.scp_core.specs.declared.event.Reply.TheVariants.{Failed, NoLink, AlreadyOpen, LivesSpent, NotOpen, Full, Accepted, Blocked, Idle, Moved, Sent, JournalFull, NoMemory}
+use Rattle.scp_again.specs.scp_core.specs.History.{Exchange}
+use Rattle.scp_again.specs.scp_core.specs.Node.{accepts_of}
+use Rattle.scp_again.specs.scp_core.specs.Kv.{NodeView, LedgerTheorem}
 use Rattle.scp_again.specs.Again.{again_of}
 use Rattle.scp_again.specs.Ascending.{Ascend}
 use Rattle.scp_again.specs.Laws.{NeverGoesBack, NodesNeverGoBack}

@@ -1,7 +1,7 @@
 -- A node that heard more and runs still.
 use Rattle.std.proofs.Common.{◌≡◌, false, List, [], ◌++◌}
-use Rattle.scp_core.specs.History.{Exchange}
-use Rattle.scp_core.specs.Kv.{NodeView, LedgerTheorem}
+use Rattle.scp_again.specs.scp_core.specs.History.{Exchange}
+use Rattle.scp_again.specs.scp_core.specs.Kv.{NodeView, LedgerTheorem}
 use Rattle.scp_turn.specs.Kv.{Goes}
 use Rattle.scp_live.specs.Living.{IsLive}
 

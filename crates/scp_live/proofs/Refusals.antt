@@ -1,7 +1,7 @@
 -- What is told of a reply.
 use Rattle.std.proofs.Common.{◌≡◌, ◌≢◌, refl}
-use Rattle.scp_core.specs.declared.event.Reply.{Reply}
-use Rattle.scp_core.specs.declared.event.Reply.TheVariants as reply
+use Rattle.scp_again.specs.scp_core.specs.declared.event.Reply.{Reply}
+use Rattle.scp_again.specs.scp_core.specs.declared.event.Reply.TheVariants as reply
 use Rattle.scp_live_lines.specs.Replies.{refused_line}
 use Rattle.scp_live.specs.Live.{refusal}
 

@@ -6,23 +6,23 @@ use Rattle.std.proofs.lemmas.Option.{slice_get_read}
 use Rattle.std.specs.Cmp.Lexicographic.{pointwise, bytes_decides}
 use Rattle.std.proofs.Math.Seq.{take-suc}
 use Rattle.scp_turn.specs.Kv.{Goes, Noting, Watched}
-use Rattle.scp_core.specs.declared.event.Event.{Event as Happening}
-use Rattle.scp_core.specs.History.{Exchange}
-use Rattle.scp_core.specs.Kv.{NodeView}
-use Rattle.scp_types.specs.declared.fault.Fault.{Fault}
-use Rattle.scp_types.specs.declared.fault.Fault.TheVariants.{NoMemory, JournalFull}
-use Rattle.scp_types.specs.declared.fault.Fault.TheVariants as faults
-use Rattle.scp_types.specs.declared.names.Hash.{Hash}
+use Rattle.scp_again.specs.scp_core.specs.declared.event.Event.{Event as Happening}
+use Rattle.scp_again.specs.scp_core.specs.History.{Exchange}
+use Rattle.scp_again.specs.scp_core.specs.Kv.{NodeView}
+use Rattle.scp_again.specs.scp_types.specs.declared.fault.Fault.{Fault}
+use Rattle.scp_again.specs.scp_types.specs.declared.fault.Fault.TheVariants.{NoMemory, JournalFull}
+use Rattle.scp_again.specs.scp_types.specs.declared.fault.Fault.TheVariants as faults
+use Rattle.scp_again.specs.scp_types.specs.declared.names.Hash.{Hash}
 use Rattle.scp_turn.specs.Episode.{finds_full}
 use Rattle.scp_live_log.specs.Log.{EntryView}
 use Rattle.scp_live_log.specs.declared.kept.LogFault.{LogFault}
 use Rattle.scp_live_log.specs.declared.kept.LogFault.TheVariants.{Damaged, Failed}
 use Rattle.scp_live_lines.specs.declared.asked.Asked.{Asked}
-use Rattle.scp_script.specs.scp_device.specs.declared.bad.WordFault.{WordFault}
-use Rattle.scp_script.specs.scp_device.specs.declared.bad.WordFault.TheVariants.{Bad}
-use Rattle.scp_script.specs.scp_device.specs.declared.bad.BadWord.{BadWord}
+use Rattle.scp_report.specs.scp_device.specs.declared.bad.WordFault.{WordFault}
+use Rattle.scp_report.specs.scp_device.specs.declared.bad.WordFault.TheVariants.{Bad}
+use Rattle.scp_report.specs.scp_device.specs.declared.bad.BadWord.{BadWord}
 use Rattle.scp_live_lines.specs.Results.{IfRefusal}
-use Rattle.scp_slot.specs.declared.timers.Timer.{Timer}
+use Rattle.scp_again.specs.scp_slot.specs.declared.timers.Timer.{Timer}
 use Rattle.scp_live_lines.specs.declared.asked.Asked.TheVariants.{Event, Again, State, Report, Stand, Applied, Nothing}
 use Rattle.scp_live_lines.specs.Says.{Says}
 use Rattle.scp_live.specs.Live.{LiveView, IsTold, told_of}

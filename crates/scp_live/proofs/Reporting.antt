@@ -1,9 +1,9 @@
 -- Texts that are written one after the other, and the number of a line.
 use Rattle.std.proofs.Common.{◌≡◌, ◌+◌, ◌*◌, ℕ, min, List, ◌++◌, Option, None, Some, sym, ◌∙◌, ap, subst, append_assoc, arith, inl}
 use Rattle.std.specs.Prelude.{◌⊎◌, Result, Ok, Err, OnOk, OnErr, IfErr, IsErrOf, IsOkUnless}
-use Rattle.scp_types.specs.declared.fault.Fault.{Fault}
-use Rattle.scp_types.specs.declared.fault.Fault.TheVariants.{NoMemory, JournalFull, Failed}
-use Rattle.scp_device.specs.Device.{Gains, GainsPart, Fails}
+use Rattle.scp_again.specs.scp_types.specs.declared.fault.Fault.{Fault}
+use Rattle.scp_again.specs.scp_types.specs.declared.fault.Fault.TheVariants.{NoMemory, JournalFull, Failed}
+use Rattle.scp_report.specs.scp_device.specs.Device.{Gains, GainsPart, Fails}
 
 -- two times so many, and two more, up to a bound
 pub two_lines : (place bound : ℕ) → min (min (place * 2) bound + 2) bound ≡ min (place * 2 + 2) bound

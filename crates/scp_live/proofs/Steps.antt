@@ -4,17 +4,17 @@ use Rattle.std.specs.Prelude.{map}
 use Rattle.std.specs.List.{AllByRecursion}
 use Rattle.std.proofs.lemmas.List.{map-append, append_cancel_left}
 use Rattle.std.proofs.lemmas.List.Sums.{fold-append}
-use Rattle.scp_driver.specs.Kv.{kv_says}
-use Rattle.scp_core.specs.declared.event.Event.{Event}
-use Rattle.scp_core.specs.declared.event.Event.TheVariants.{Open, Send, Close, Local, ReaderTake, ReaderPut, PendTake, PendPut, SlotTake, SlotPut, ApplyTake, Drain}
-use Rattle.scp_core.specs.declared.event.Reply.{Reply}
-use Rattle.scp_core.specs.declared.event.Reply.TheVariants.{Failed, NoLink, AlreadyOpen, LivesSpent, NotOpen, Full, Accepted, Blocked, Idle, Moved, Sent, JournalFull, NoMemory}
-use Rattle.scp_core.specs.declared.config.Config.{Config}
-use Rattle.scp_core.specs.History.{Exchange, Past, hears, past_of, nothing_heard}
-use Rattle.scp_core.specs.Theorem.{AreSteps}
-use Rattle.scp_core.specs.Node.{Accepts, SendsOut}
-use Rattle.scp_core.specs.Kv.{NodeView, Moves, Step, Flows, SameEventsSameReplies, LedgerTheorem, StepsKeep}
-use Rattle.scp_core.specs.Same.{ShowSameNode, NoneLackedMemory, event_of}
+use Rattle.scp_again.specs.scp_driver.specs.Kv.{kv_says}
+use Rattle.scp_again.specs.scp_core.specs.declared.event.Event.{Event}
+use Rattle.scp_again.specs.scp_core.specs.declared.event.Event.TheVariants.{Open, Send, Close, Local, ReaderTake, ReaderPut, PendTake, PendPut, SlotTake, SlotPut, ApplyTake, Drain}
+use Rattle.scp_again.specs.scp_core.specs.declared.event.Reply.{Reply}
+use Rattle.scp_again.specs.scp_core.specs.declared.event.Reply.TheVariants.{Failed, NoLink, AlreadyOpen, LivesSpent, NotOpen, Full, Accepted, Blocked, Idle, Moved, Sent, JournalFull, NoMemory}
+use Rattle.scp_again.specs.scp_core.specs.declared.config.Config.{Config}
+use Rattle.scp_again.specs.scp_core.specs.History.{Exchange, Past, hears, past_of, nothing_heard}
+use Rattle.scp_again.specs.scp_core.specs.Theorem.{AreSteps}
+use Rattle.scp_again.specs.scp_core.specs.Node.{Accepts, SendsOut}
+use Rattle.scp_again.specs.scp_core.specs.Kv.{NodeView, Moves, Step, Flows, SameEventsSameReplies, LedgerTheorem, StepsKeep}
+use Rattle.scp_again.specs.scp_core.specs.Same.{ShowSameNode, NoneLackedMemory, event_of}
 use Rattle.scp_turn.specs.Turn.{events_of}
 use Rattle.scp_turn.specs.Kv.{Does}
 

@@ -3,14 +3,14 @@ use Rattle.std.proofs.Common.{◌≡◌, ℕ, true, List, ◌++◌, sym, ◌∙�
 use Rattle.std.specs.Prelude.{Result, Ok, Err, IfOk, IsErrOf, IsOkUnless, ◌↔◌, length, flat_map}
 use Rattle.std.proofs.lemmas.Result.{IfOk-at_ok}
 use Rattle.sha2.specs.Sha256.{sha256}
-use Rattle.scp_types.specs.declared.fault.Fault.{Fault}
-use Rattle.scp_types.specs.declared.fault.Fault.TheVariants.{JournalFull, NoMemory}
-use Rattle.scp_types.specs.declared.names.Hash.{Hash}
-use Rattle.scp_slot.specs.declared.timers.Timer.{Timer}
-use Rattle.scp_core.specs.declared.event.Event.{Event}
-use Rattle.scp_core.specs.declared.event.Reply.{Reply}
-use Rattle.scp_core.specs.History.{Exchange}
-use Rattle.scp_core.specs.Kv.{NodeView}
+use Rattle.scp_again.specs.scp_types.specs.declared.fault.Fault.{Fault}
+use Rattle.scp_again.specs.scp_types.specs.declared.fault.Fault.TheVariants.{JournalFull, NoMemory}
+use Rattle.scp_again.specs.scp_types.specs.declared.names.Hash.{Hash}
+use Rattle.scp_again.specs.scp_slot.specs.declared.timers.Timer.{Timer}
+use Rattle.scp_again.specs.scp_core.specs.declared.event.Event.{Event}
+use Rattle.scp_again.specs.scp_core.specs.declared.event.Reply.{Reply}
+use Rattle.scp_again.specs.scp_core.specs.History.{Exchange}
+use Rattle.scp_again.specs.scp_core.specs.Kv.{NodeView}
 use Rattle.scp_turn.specs.Kv.{Goes, IsEpisode}
 use Rattle.scp_turn.specs.declared.sending.Sending.{Sending}
 use Rattle.scp_turn.specs.declared.playing.Played.{Played}

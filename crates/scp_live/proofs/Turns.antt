@@ -3,11 +3,11 @@ use Rattle.std.proofs.Common.{◌≡◌, ◌<◌, ℕ, zero, suc, Bool, true, fa
 use Rattle.std.specs.Prelude.{min, length}
 use Rattle.std.proofs.lemmas.Bool.{cases_order}
 use Rattle.std.proofs.lemmas.List.{map-append}
-use Rattle.scp_driver.specs.Kv.{kv_says}
-use Rattle.scp_types.specs.declared.limits.TheConstants.{LINK_LIMIT, ROUND_LIMIT}
-use Rattle.scp_core.specs.declared.config.Config.{Config}
-use Rattle.scp_core.specs.History.{Exchange}
-use Rattle.scp_core.specs.Kv.{NodeView}
+use Rattle.scp_again.specs.scp_driver.specs.Kv.{kv_says}
+use Rattle.scp_again.specs.scp_types.specs.declared.limits.TheConstants.{LINK_LIMIT, ROUND_LIMIT}
+use Rattle.scp_again.specs.scp_core.specs.declared.config.Config.{Config}
+use Rattle.scp_again.specs.scp_core.specs.History.{Exchange}
+use Rattle.scp_again.specs.scp_core.specs.Kv.{NodeView}
 use Rattle.scp_turn.specs.Turn.{IsStill, IsTurn, events_of, links_of, stage_events}
 use Rattle.scp_turn.specs.Kv.{Does, AreMovingTurns, Rests}
 use Rattle.scp_turn.specs.Rest.{IsStillTurn, Then}

@@ -4,13 +4,13 @@ use Rattle.std.specs.Prelude.{codes}
 use Rattle.std.specs.Fmt.{decimal}
 use Rattle.std.proofs.lemmas.Fmt.{decimal_injective}
 use Rattle.std.proofs.lemmas.Option.{slice_get-get_or}
-use Rattle.scp_types.specs.declared.names.Slot.{Slot}
-use Rattle.scp_wire.specs.declared.link.Command.{Command}
-use Rattle.scp_wire.specs.declared.link.Command.TheVariants.{Tick, Propose, Round, Timer, Ask}
-use Rattle.scp_core.specs.declared.event.Event.{Event as Happening}
-use Rattle.scp_core.specs.declared.event.Event.TheVariants.{Open, Send, Close, Local, ReaderTake, ReaderPut, PendTake, PendPut, SlotTake, SlotPut, ApplyTake, Drain}
-use Rattle.scp_script.specs.Words.{hex_bytes, is_skipped}
-use Rattle.scp_script.specs.Reasons.{parts_of}
+use Rattle.scp_again.specs.scp_types.specs.declared.names.Slot.{Slot}
+use Rattle.scp_again.specs.scp_wire.specs.declared.link.Command.{Command}
+use Rattle.scp_again.specs.scp_wire.specs.declared.link.Command.TheVariants.{Tick, Propose, Round, Timer, Ask}
+use Rattle.scp_again.specs.scp_core.specs.declared.event.Event.{Event as Happening}
+use Rattle.scp_again.specs.scp_core.specs.declared.event.Event.TheVariants.{Open, Send, Close, Local, ReaderTake, ReaderPut, PendTake, PendPut, SlotTake, SlotPut, ApplyTake, Drain}
+use Rattle.scp_report.specs.scp_script.specs.Words.{hex_bytes, is_skipped}
+use Rattle.scp_report.specs.scp_script.specs.Reasons.{parts_of}
 use Rattle.scp_live_lines.specs.declared.asked.Asked.{Asked}
 use Rattle.scp_live_lines.specs.declared.asked.Asked.TheVariants.{Event, Again, State, Report, Stand, Applied, Nothing}
 use Rattle.scp_live_lines.specs.declared.verb.Verb.{Verb}

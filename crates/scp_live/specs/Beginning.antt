@@ -4,8 +4,8 @@ use Rattle.hex.specs.Hex.{encode_lower}
 use Rattle.sha2.specs.Sha256.{sha256}
 use Rattle.toml.specs.Data.{Members}
 use Rattle.toml.specs.Parse.{parse_document}
-use Rattle.scp_core.specs.declared.config.Config.{Config}
-use Rattle.scp_core.specs.Kv.{LedgerTheorem}
+use Rattle.scp_again.specs.scp_core.specs.declared.config.Config.{Config}
+use Rattle.scp_again.specs.scp_core.specs.Kv.{LedgerTheorem}
 use Rattle.scp_live_config.specs.Config.{IsConfigOf}
 use Rattle.scp_live_config.specs.Form.{form}
 use Rattle.scp_live_config.specs.Names.{Identity}

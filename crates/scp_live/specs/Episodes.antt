@@ -1,10 +1,10 @@
 -- Two runs of a node that receive the same events.
 use Rattle.std.specs.Prelude.{◌≡◌, ℕ, false, List, [], ◌∷◌, ◌++◌}
-use Rattle.scp_core.specs.declared.event.Event.{Event}
-use Rattle.scp_core.specs.declared.event.Reply.{Reply}
-use Rattle.scp_core.specs.History.{Exchange}
-use Rattle.scp_core.specs.Kv.{NodeView, LedgerTheorem}
-use Rattle.scp_core.specs.Same.{ShowSameNode}
+use Rattle.scp_again.specs.scp_core.specs.declared.event.Event.{Event}
+use Rattle.scp_again.specs.scp_core.specs.declared.event.Reply.{Reply}
+use Rattle.scp_again.specs.scp_core.specs.History.{Exchange}
+use Rattle.scp_again.specs.scp_core.specs.Kv.{NodeView, LedgerTheorem}
+use Rattle.scp_again.specs.scp_core.specs.Same.{ShowSameNode}
 use Rattle.scp_again.specs.Laws.{NeverGoesBack}
 use Rattle.scp_turn.specs.Rest.{Then}
 use Rattle.scp_turn.specs.Kv.{IsEpisode}

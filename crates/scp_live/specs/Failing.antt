@@ -2,9 +2,9 @@
 use Rattle.std.specs.Prelude.{ℕ, ◌≡◌, ◌+◌, ◌*◌, ◌-◌, ◌^◌, ◌⊎◌, List, ◌++◌, Option, min, codes, string_bytes}
 use Rattle.std.specs.Fmt.{decimal}
 use Rattle.std.specs.Str.{IsUtf8}
-use Rattle.scp_types.specs.Fault.{number_of}
-use Rattle.scp_types.specs.declared.fault.Fault.TheVariants as fault
-use Rattle.scp_device.specs.Device.{Gains, GainsPart, Fails}
+use Rattle.scp_again.specs.scp_types.specs.Fault.{number_of}
+use Rattle.scp_again.specs.scp_types.specs.declared.fault.Fault.TheVariants as fault
+use Rattle.scp_report.specs.scp_device.specs.Device.{Gains, GainsPart, Fails}
 use Rattle.scp_live_log.specs.declared.kept.LogFault.{LogFault}
 use Rattle.scp_live_log.specs.declared.kept.LogFault.TheVariants.{Another, Damaged, Failed}
 use Rattle.scp_live_config.specs.Texts.{fault_text}

@@ -1,5 +1,6 @@
-pub use Rattle.scp_turn
 pub use Rattle.scp_again
+pub use Rattle.scp_live_config
+pub use Rattle.scp_live_lines
 pub mod Live
 pub mod Again
 pub mod Questions

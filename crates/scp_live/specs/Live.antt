@@ -1,14 +1,14 @@
 -- A node with what was reported to its host, and the lines that report an event (this project's profile).
 use Rattle.std.specs.Prelude.{◌≡◌, ℕ, List, [], ◌++◌, length, drop, flat_map}
-use Rattle.scp_types.specs.declared.limits.TheConstants.{WINDOW}
-use Rattle.scp_slot.specs.declared.timers.Timer.{Timer}
-use Rattle.scp_ledger.specs.Timers.{AreTimers}
+use Rattle.scp_again.specs.scp_types.specs.declared.limits.TheConstants.{WINDOW}
+use Rattle.scp_again.specs.scp_slot.specs.declared.timers.Timer.{Timer}
+use Rattle.scp_again.specs.scp_ledger.specs.Timers.{AreTimers}
 use Rattle.sha2.specs.Sha256.{sha256}
-use Rattle.scp_core.specs.declared.event.Event.{Event}
-use Rattle.scp_core.specs.declared.event.Reply.{Reply}
-use Rattle.scp_core.specs.declared.event.Reply.TheVariants as reply
-use Rattle.scp_core.specs.History.{Exchange}
-use Rattle.scp_core.specs.Kv.{NodeView}
+use Rattle.scp_again.specs.scp_core.specs.declared.event.Event.{Event}
+use Rattle.scp_again.specs.scp_core.specs.declared.event.Reply.{Reply}
+use Rattle.scp_again.specs.scp_core.specs.declared.event.Reply.TheVariants as reply
+use Rattle.scp_again.specs.scp_core.specs.History.{Exchange}
+use Rattle.scp_again.specs.scp_core.specs.Kv.{NodeView}
 use Rattle.scp_turn.specs.declared.sending.Sending.{Sending}
 use Rattle.scp_turn.specs.Episode.{sent_in}
 use Rattle.scp_turn.specs.Kv.{IsEpisode}

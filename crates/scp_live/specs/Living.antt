@@ -1,7 +1,7 @@
 -- A node that runs.
 use Rattle.std.specs.Prelude.{◌≡◌, false, List}
-use Rattle.scp_core.specs.History.{Exchange}
-use Rattle.scp_core.specs.Kv.{NodeView, LedgerTheorem}
+use Rattle.scp_again.specs.scp_core.specs.History.{Exchange}
+use Rattle.scp_again.specs.scp_core.specs.Kv.{NodeView, LedgerTheorem}
 
 -- The node runs, and the ledger theorem holds of it for some list of exchanges.
 pub record IsLive (v : NodeView) : Type 0 where

@@ -1,8 +1,8 @@
 -- The answers to a host that asks about the state of a node (this project's profile).
 use Rattle.std.specs.Prelude.{ℕ, zero, suc, ◌-◌, List, [], ◌++◌, length, drop, flat_map}
-use Rattle.scp_types.specs.declared.names.NodeId.{NodeId}
-use Rattle.scp_core.specs.Node.{accepts_at, lives_at}
-use Rattle.scp_core.specs.Kv.{NodeView}
+use Rattle.scp_again.specs.scp_types.specs.declared.names.NodeId.{NodeId}
+use Rattle.scp_again.specs.scp_core.specs.Node.{accepts_at, lives_at}
+use Rattle.scp_again.specs.scp_core.specs.Kv.{NodeView}
 use Rattle.scp_turn.specs.Turn.{links_of}
 use Rattle.scp_live_lines.specs.Names.{name_at}
 use Rattle.scp_live_lines.specs.Fates.{fate_line}

@@ -1,7 +1,7 @@
 -- How the entries of a log are played again (this project's profile).
 use Rattle.std.specs.Prelude.{ℕ, ◌≡◌, ◌≢◌, ◌⊎◌, List, [], ◌∷◌, ◌++◌, Some, take, slice_get}
-use Rattle.scp_core.specs.declared.event.Event.{Event as Happening}
-use Rattle.scp_core.specs.History.{Exchange}
+use Rattle.scp_again.specs.scp_core.specs.declared.event.Event.{Event as Happening}
+use Rattle.scp_again.specs.scp_core.specs.History.{Exchange}
 use Rattle.scp_live_log.specs.Log.{EntryView}
 use Rattle.scp_live_lines.specs.declared.asked.Asked.{Asked}
 use Rattle.scp_live_lines.specs.declared.asked.Asked.TheVariants.{Event}

@@ -1,7 +1,7 @@
 //! An event, and the lines that report what it did.
 ghost use Rattle.std.specs.Prelude.{◌≡◌, ◌⊎◌, ◌++◌, ◌↔◌, false, true, IfOk, IfErr, OnOk, IsErrOf, IsOkUnless, map, flat_map, string_bytes};
 ghost use Rattle.sha2.specs.Sha256.{sha256};
-ghost use Rattle.scp_types.specs.declared.fault.Fault.{Fault};
+ghost use Rattle.scp_again.specs.scp_types.specs.declared.fault.Fault.{Fault};
 ghost use Rattle.scp_turn.specs.Kv.{Goes, Watched};
 ghost use Rattle.scp_turn.specs.Watch.{notes};
 ghost use Rattle.scp_turn.specs.Episode.{IsOfHost, finds_full};
@@ -9,10 +9,10 @@ ghost use Rattle.scp_live_lines.specs.Timers.{changes};
 ghost use Rattle.scp_live.specs.Live.{IsTold, AreTimersOf, refusal, sent_line, new_fates, new_decisions, newly_applied};
 
 use crate::telling::{Marks, digest_from, tell_new, tell_refusal, tell_sent};
-use scp_core::{Event, KvDriver, Node, Timer, timers};
+use scp_again::below::node::{Event, KvDriver, Node, Timer, timers};
+use scp_again::below::types::{Fault, Hash};
 use scp_live_lines::write_changes;
 use scp_turn::{Played, Watch, play_with};
-use scp_types::{Fault, Hash};
 use std::alloc::Global;
 
 /// Reports the reply and what was sent, and returns the digest of the lines of what was sent.

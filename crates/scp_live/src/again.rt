@@ -1,16 +1,16 @@
 //! What a node sends once more to a peer, in lines.
 ghost use Rattle.std.specs.Prelude.{◌≡◌, ◌⊎◌, ◌∷◌, [], false, IfErr, OnOk, string_bytes};
-ghost use Rattle.scp_types.specs.declared.fault.Fault.{Fault};
+ghost use Rattle.scp_again.specs.scp_types.specs.declared.fault.Fault.{Fault};
 ghost use Rattle.scp_live_lines.specs.Names.{name_at};
 ghost use Rattle.scp_again.specs.Again.{again_of};
 ghost use Rattle.scp_live.specs.Again.{SaysAgain};
 
 use crate::live::Live;
 use crate::telling::name_of;
+use scp_again::below::types::Fault;
+use scp_again::below::wire::{Message, encode};
 use scp_again::messages_again;
 use scp_live_lines::write_again;
-use scp_types::Fault;
-use scp_wire::{Message, encode};
 use std::alloc::Global;
 
 /// Adds the line of a message.

@@ -1,15 +1,15 @@
 //! Checks a configuration and shows its digest.
 ghost use Rattle.std.specs.Prelude.{◌≡◌, IfOk, string_bytes};
-ghost use Rattle.scp_device.specs.Device.{Gains};
+ghost use Rattle.scp_report.specs.scp_device.specs.Device.{Gains};
 ghost use Rattle.scp_live_config.specs.declared.settings.Settings.{Settings};
 ghost use Rattle.scp_live.specs.Beginning.{Configures, digest_of, checked_line};
 
 use crate::failing::{fail, refuse};
 use crate::settings::settings_of;
-use scp_device::{ReportOut, write_text};
+use scp_again::below::types::Fault;
 use scp_live_config::Settings;
 use scp_live_log::LogFault;
-use scp_types::Fault;
+use scp_report::below::device::{ReportOut, write_text};
 use std::alloc::{AllocError, Global};
 
 /// The line that is written for a valid configuration.

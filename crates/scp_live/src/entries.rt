@@ -1,6 +1,6 @@
 //! How the entries of a log are played again.
 ghost use Rattle.std.specs.Prelude.{◌≡◌, ◌⊎◌, ◌↔◌, ◌<◌, ℕ, true, IfOk, IfErr, IfSome, IfNone, OnOk, Err, length};
-ghost use Rattle.scp_types.specs.declared.fault.Fault.{Fault};
+ghost use Rattle.scp_again.specs.scp_types.specs.declared.fault.Fault.{Fault};
 ghost use Rattle.scp_live_log.specs.declared.kept.LogFault.TheVariants.{Another, Damaged, Failed};
 ghost use Rattle.scp_turn.specs.Kv.{Goes, Watched};
 ghost use Rattle.scp_turn.specs.Watch.{notes};
@@ -12,11 +12,11 @@ ghost use Rattle.scp_live.specs.inside.Replaying.{IsReplayFault};
 ghost use Rattle.scp_live.specs.Living.{IsLive};
 
 use crate::live::Live;
-use scp_core::{Event, KvDriver};
+use scp_again::below::node::{Event, KvDriver};
+use scp_again::below::types::Fault;
 use scp_live_lines::{Asked, WordFault, read_line};
 use scp_live_log::{Entry, LogFault};
 use scp_turn::Watch;
-use scp_types::Fault;
 use std::alloc::{AllocError, Global};
 
 /// The event that a line says, if it says one.

@@ -1,17 +1,17 @@
 //! What is written about a node that can't begin, or that failed.
 ghost use Rattle.std.specs.Prelude.{◌≡◌, ◌≢◌, ◌⊎◌, ◌++◌, codes, OnOk, OnErr, IfOk, string_bytes};
 ghost use Rattle.std.specs.Fmt.{decimal};
-ghost use Rattle.scp_types.specs.declared.fault.Fault.TheVariants.{NoMemory};
-ghost use Rattle.scp_device.specs.Device.{Gains, GainsPart, Fails};
+ghost use Rattle.scp_again.specs.scp_types.specs.declared.fault.Fault.TheVariants.{NoMemory};
+ghost use Rattle.scp_report.specs.scp_device.specs.Device.{Gains, GainsPart, Fails};
 ghost use Rattle.scp_live_log.specs.declared.kept.LogFault.TheVariants.{Failed};
 ghost use Rattle.scp_live_config.specs.Texts.{fault_text};
 ghost use Rattle.scp_live.specs.Failing as words;
 
 use itoa::Buffer;
-use scp_device::{ReportOut, write_text};
+use scp_again::below::types::Fault;
 use scp_live_config::{ConfigFault, write_fault};
 use scp_live_log::LogFault;
-use scp_types::Fault;
+use scp_report::below::device::{ReportOut, write_text};
 use std::alloc::{AllocError, Global};
 
 /// This text, the text of a fault, and a line end.

@@ -2,10 +2,10 @@
 ghost use Rattle.scp_live.specs.Episodes.{SameEventsSameEpisodes, FurtherEventsGoOn};
 ghost use Rattle.scp_live.specs.Lines.{LinesSayOneThing};
 
-use scp_again::what_is_sent_once_more_never_goes_back;
-use scp_core::{
+use scp_again::below::node::{
     KvDriver, what_holds_of_a_past_holds_with_one_step_more, what_two_runs_reply_is_the_same,
 };
+use scp_again::what_is_sent_once_more_never_goes_back;
 
 /// The same events give the same episodes. Take two runs of one configuration, each from the newly made node on, that receive the same
 /// events. If neither leaves the node failed, both have the same exchanges, and leave nodes that show the same.

@@ -24,6 +24,7 @@
 
 mod acting;
 mod again;
+pub mod below;
 mod check;
 mod entries;
 mod failing;

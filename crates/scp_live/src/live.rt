@@ -1,9 +1,9 @@
 //! A live node.
 ghost use Rattle.std.specs.Prelude.{◌≡◌, ◌⊎◌, ◌↔◌, [], false, true, map, IfOk, IfErr, OnOk, IsErrOf, Err, string_bytes};
-ghost use Rattle.scp_types.specs.declared.fault.Fault.{Fault};
-ghost use Rattle.scp_core.specs.Config.{IsConfigOfMany};
-ghost use Rattle.scp_core.specs.Node.{accepts_at};
-ghost use Rattle.scp_core.specs.Kv.{LedgerTheorem};
+ghost use Rattle.scp_again.specs.scp_types.specs.declared.fault.Fault.{Fault};
+ghost use Rattle.scp_again.specs.scp_core.specs.Config.{IsConfigOfMany};
+ghost use Rattle.scp_again.specs.scp_core.specs.Node.{accepts_at};
+ghost use Rattle.scp_again.specs.scp_core.specs.Kv.{LedgerTheorem};
 ghost use Rattle.scp_turn.specs.Turn.{links_of};
 ghost use Rattle.scp_turn.specs.Kv.{Goes, Watched};
 ghost use Rattle.scp_turn.specs.Watch.{notes};
@@ -11,10 +11,10 @@ ghost use Rattle.scp_turn.specs.Episode.{IsOfHost, finds_full};
 ghost use Rattle.scp_live.specs.Live.{IsTold, AreTimersOf};
 
 use crate::acting;
-use scp_core::{Config, Event, KvDriver, Node, Timer, timers};
+use scp_again::below::node::{Config, Event, KvDriver, Node, Timer, timers};
+use scp_again::below::types::{Fault, Hash, LINK_LIMIT};
 use scp_live_config::Named;
 use scp_turn::Watch;
-use scp_types::{Fault, Hash, LINK_LIMIT};
 use std::alloc::Global;
 use std::marker::Model;
 
@@ -43,10 +43,10 @@ impl Drop for Live {
 impl Model for Live {
     ghost use Rattle.std.specs.Prelude.{map, string_bytes};
     ghost use Rattle.std.specs.Coded.{codes};
-    ghost use Rattle.scp_xdr.specs.inside.TreeModel.{coded_row};
-    ghost use Rattle.scp_quorum.specs.inside.QuorumTree.{coded_level};
-    ghost use Rattle.scp_driver.specs.contracts.kv_driver.KvDriver as driver;
-    ghost use Rattle.scp_ledger.specs.inside.Coding.{machine_code};
+    ghost use Rattle.scp_again.specs.scp_xdr.specs.inside.TreeModel.{coded_row};
+    ghost use Rattle.scp_again.specs.scp_quorum.specs.inside.QuorumTree.{coded_level};
+    ghost use Rattle.scp_again.specs.scp_driver.specs.contracts.kv_driver.KvDriver as driver;
+    ghost use Rattle.scp_again.specs.scp_ledger.specs.inside.Coding.{machine_code};
     ghost use Rattle.scp_live.specs.Live.{LiveView};
 
     ghost Value = { LiveView };

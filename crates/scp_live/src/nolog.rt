@@ -1,7 +1,7 @@
 //! A log that keeps nothing.
 
+use scp_again::below::types::Fault;
 use scp_live_log::EventLog;
-use scp_types::Fault;
 use std::alloc::Global;
 
 /// A log that keeps nothing, for a node without a log file. All that the node received is lost when its process ends.
@@ -36,6 +36,10 @@ impl EventLog for NoLog {
     }
 
     fn sync(&mut self) -> Result<(), Fault> {
+        Ok(())
+    }
+
+    fn replace(&mut self, _bytes: &[u8]) -> Result<(), Fault> {
         Ok(())
     }
 }

@@ -1,7 +1,7 @@
 //! The answers to a host that asks about the state of a node.
 ghost use Rattle.std.specs.Prelude.{◌≡◌, ◌++◌, false, OnOk, map, flat_map, string_bytes};
 ghost use Rattle.std.specs.FinMap as map_of;
-ghost use Rattle.scp_core.specs.Node.{accepts_at, lives_at};
+ghost use Rattle.scp_again.specs.scp_core.specs.Node.{accepts_at, lives_at};
 ghost use Rattle.scp_turn.specs.Turn.{links_of};
 ghost use Rattle.scp_live_lines.specs.Names.{name_at};
 ghost use Rattle.scp_live_lines.specs.State.{key_line, link_line};
@@ -10,13 +10,13 @@ ghost use Rattle.scp_live.specs.Questions.{link_lines, state_of, applied_from, r
 
 use crate::live::Live;
 use crate::telling::{behind, name_of, tell_applied, tell_fates};
-use scp_kv::KvState;
+use scp_again::below::kv::KvState;
+use scp_again::below::types::{NodeId, Slot};
 use scp_live_lines::{
     write_applied_count, write_journal, write_key, write_link, write_lowest, write_running,
     write_warning,
 };
 use scp_report::{Report, report_of as record_of};
-use scp_types::{NodeId, Slot};
 use std::alloc::AllocError;
 
 /// Adds the lines of the keys with their values.

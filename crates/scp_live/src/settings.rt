@@ -1,15 +1,15 @@
 //! The settings that a text gives, the node with these settings, and the first line of its log.
 ghost use Rattle.std.specs.Prelude.{◌≡◌, ◌⊎◌, IfOk, IfErr, IsOkUnless};
-ghost use Rattle.scp_core.specs.Config.{IsConfigOfMany};
+ghost use Rattle.scp_again.specs.scp_core.specs.Config.{IsConfigOfMany};
 ghost use Rattle.scp_live_log.specs.Log.{IsLine};
 ghost use Rattle.scp_live.specs.Beginning.{Configures, config_in, header_of, IsNew};
 ghost use Rattle.scp_live.specs.Failing.{IsConfigFault};
 ghost use Rattle.scp_live.specs.Living.{IsLive};
 
 use crate::live::Live;
-use scp_core::{Config, Peers};
+use scp_again::below::node::{Config, Peers};
+use scp_again::below::types::{Fault, Hash};
 use scp_live_config::{ConfigFault, Named, Settings, read_config};
-use scp_types::{Fault, Hash};
 use std::alloc::{AllocError, Global};
 use std::str;
 

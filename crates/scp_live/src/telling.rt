@@ -6,10 +6,10 @@ ghost use Rattle.scp_live_lines.specs.Fates.{fate_line};
 ghost use Rattle.scp_live_lines.specs.Decisions.{decided_line, applied_line};
 ghost use Rattle.scp_live.specs.Live.{sent_line, refusal, new_fates, new_decisions, newly_applied};
 
-use scp_core::{Fate, Node, Reply, SharedDecision};
+use scp_again::below::node::{Fate, Node, Reply, SharedDecision};
+use scp_again::below::types::{Hash, NodeId};
 use scp_live_lines::{write_applied, write_decided, write_fate, write_refused, write_send};
 use scp_turn::Sending;
-use scp_types::{Hash, NodeId};
 use sha2::{Digest, Sha256};
 use std::alloc::AllocError;
 

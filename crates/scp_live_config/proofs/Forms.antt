@@ -1,14 +1,14 @@
 -- Forms that are alike are of the same.
 use Rattle.std.proofs.Common.{◌≡◌, ℕ, ◌<◌, ◌^◌, List, [], ◌∷◌, ◌++◌, length, drop, flat_map, refl, sym, ap, ◌∙◌, arith, append_assoc}
 use Rattle.std.specs.List.{AllByRecursion}
-use Rattle.scp_types.specs.declared.names.NodeId.{NodeId}
-use Rattle.scp_xdr.specs.Kind.{Kind, uint64, Values, Fits, spelling, long_word}
+use Rattle.scp_quorum.specs.scp_types.specs.declared.names.NodeId.{NodeId}
+use Rattle.scp_quorum.specs.scp_xdr.specs.Kind.{Kind, uint64, Values, Fits, spelling, long_word}
 use Rattle.scp_quorum.specs.QuorumTree.{QuorumTree}
 use Rattle.scp_quorum.specs.QuorumKind.{set_kind, set_value, set_spelling, quorum_set_of, SetIsItsValue}
 use Rattle.scp_live_config.specs.Names.{Identity}
 use Rattle.scp_live_config.specs.Form.{identity_form, identities_form, capacities_form, form, IsFormed, OneFormOneMeaning}
 use Rattle.scp_live_config.specs.declared.settings.Settings.{Settings}
-use Rattle.scp_types.specs.declared.capacities.Capacities.{Capacities}
+use Rattle.scp_quorum.specs.scp_types.specs.declared.capacities.Capacities.{Capacities}
 
 -- no spelling begins another
 abbrev pub NoneBegins : Type 0

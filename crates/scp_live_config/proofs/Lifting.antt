@@ -3,7 +3,7 @@ use Rattle.std.proofs.Common.{◌≡◌, ℕ, ◌<◌, List, length, map, Option
 use Rattle.std.specs.List.{slice_get}
 use Rattle.std.specs.Prelude.{IsSomeAnd}
 use Rattle.std.proofs.lemmas.Option.{same_Some, none-some}
-use Rattle.scp_types.specs.declared.limits.TheConstants.{LINK_LIMIT}
+use Rattle.scp_quorum.specs.scp_types.specs.declared.limits.TheConstants.{LINK_LIMIT}
 use Rattle.toml.specs.Data.{Data, Items, Members}
 use Rattle.toml.specs.Parse.{parse_document}
 use Rattle.toml.specs.Errors.{IsMemory, IsWithin, span_start}

@@ -4,9 +4,9 @@ use Rattle.std.proofs.lemmas.List.{length-map}
 use Rattle.std.specs.List.{slice_get, AllByRecursion}
 use Rattle.std.proofs.lemmas.Option.{same_Some, none-some, slice_get-map}
 use Rattle.std.proofs.lemmas.Bool.{false≢true, cases_Bool}
-use Rattle.scp_types.specs.declared.limits.TheConstants.{LINK_LIMIT}
+use Rattle.scp_quorum.specs.scp_types.specs.declared.limits.TheConstants.{LINK_LIMIT}
 use Rattle.toml.specs.Data.{Data, Items, Members, as_table, get_member}
-use Rattle.scp_xdr.specs.Tree.{Trees, no_trees, tree_then, row_len}
+use Rattle.scp_quorum.specs.scp_xdr.specs.Tree.{Trees, no_trees, tree_then, row_len}
 use Rattle.scp_quorum.specs.QuorumTree.{Level, QuorumTree}
 use Rattle.scp_quorum.specs.Sane.{IsSane, levels, all_nodes}
 use Rattle.scp_live_config.specs.Names.{Identity, AreNames, HasOnly, belongs, is_name, id_said, identity_said, pairs_of, values_of, node_said, name_said}
@@ -14,7 +14,7 @@ use Rattle.scp_live_config.specs.Sets.{SaysLevel, SayInner, SaysSet, validators_
 use Rattle.scp_live_config.specs.Config.{IsConfigOf, SaysNames, SaysQueues, node_in, table_at, capacity_said}
 use Rattle.scp_live_config.specs.Wrong.{IsStray, HaveOneId, IsPeerAt, IsWrongHere, IsWrongInside, IsWrongSet, SaysWrongSet, IsWrong, queue_key}
 use Rattle.scp_live_config.specs.declared.settings.Settings.{Settings}
-use Rattle.scp_types.specs.declared.capacities.Capacities.{Capacities}
+use Rattle.scp_quorum.specs.scp_types.specs.declared.capacities.Capacities.{Capacities}
 use Rattle.scp_live_config.specs.declared.wrong.Section.{Section}
 use Rattle.scp_live_config.specs.declared.wrong.Section.TheVariants as section
 use Rattle.scp_live_config.specs.declared.wrong.Queue.{Queue}

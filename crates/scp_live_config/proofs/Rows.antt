@@ -6,13 +6,13 @@ use Rattle.toml.specs.Data.{Data, Members, as_table}
 use Rattle.toml.specs.View.{view}
 use Rattle.toml.specs.declared.value.Value.{Value}
 use Rattle.scp_live_config.proofs.Views.{at_said, values_more}
-use Rattle.scp_xdr.specs.Tree.{Trees, no_trees, tree_then, in_a_row, row_len, tree_of}
+use Rattle.scp_quorum.specs.scp_xdr.specs.Tree.{Trees, no_trees, tree_then, in_a_row, row_len, tree_of}
 use Rattle.scp_quorum.specs.QuorumTree.{Level, QuorumTree}
 use Rattle.scp_quorum.specs.Sane.{levels, AreInRange, IsInRange}
 use Rattle.scp_live_config.specs.Names.{Identity, HasOnly, node_said}
 use Rattle.scp_live_config.specs.declared.wrong.Section.TheVariants.{Set}
 use Rattle.scp_live_config.specs.declared.wrong.SetWrong.TheVariants as within
-use Rattle.scp_types.specs.declared.names.NodeId.{NodeId}
+use Rattle.scp_quorum.specs.scp_types.specs.declared.names.NodeId.{NodeId}
 use Rattle.scp_live_config.specs.Sets.{SaysLevel, SayInner, SaysSet, sets_in, validators_in, threshold_in}
 use Rattle.scp_live_config.specs.Wrong.{IsWrongInside, IsWrongHere}
 use Rattle.scp_live_config.specs.declared.wrong.SetWrong.{SetWrong}

@@ -10,7 +10,7 @@ use Rattle.std.proofs.lemmas.Slice.Eq.{bytes_eq-Decides}
 use Rattle.toml.specs.Data.{Data, Members}
 use Rattle.toml.specs.View.{view, members_view}
 use Rattle.toml.specs.declared.value.Value.{Value}
-use Rattle.scp_types.specs.declared.names.NodeId.{NodeId}
+use Rattle.scp_quorum.specs.scp_types.specs.declared.names.NodeId.{NodeId}
 use Rattle.scp_live_config.specs.Names.{Identity, NoTwo, identity_said, pairs_of, named, name_said, node_said}
 use Rattle.scp_live_config.specs.Wrong.{HaveOneId, IsNoName, HasNoId}
 use Rattle.scp_live_config.specs.declared.wrong.Wrong.{Wrong}

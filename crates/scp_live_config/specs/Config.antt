@@ -1,13 +1,13 @@
 -- What the document of a configuration means (this project's profile).
 use Rattle.std.specs.Prelude.{◌≡◌, ◌≢◌, ℕ, ◌≤◌, List, length, map, Option, Some, None, option_and_then, codes}
 use Rattle.std.specs.List.{AllByRecursion}
-use Rattle.scp_types.specs.declared.limits.TheConstants.{LINK_LIMIT}
+use Rattle.scp_quorum.specs.scp_types.specs.declared.limits.TheConstants.{LINK_LIMIT}
 use Rattle.toml.specs.Data.{Data, Items, Members, no_members, get_member, as_table, as_array}
 use Rattle.scp_quorum.specs.Sane.{IsSane}
 use Rattle.scp_live_config.specs.Names.{Identity, AreNames, HasOnly, NoTwo, values_of, name_said, number_to}
 use Rattle.scp_live_config.specs.Sets.{SaysSet}
 use Rattle.scp_live_config.specs.declared.settings.Settings.{Settings}
-use Rattle.scp_types.specs.declared.capacities.Capacities.{Capacities}
+use Rattle.scp_quorum.specs.scp_types.specs.declared.capacities.Capacities.{Capacities}
 use Rattle.scp_live_config.specs.declared.wrong.Section.TheVariants.{Whole, Queues}
 
 -- The table at a key, if there is one.

@@ -1,11 +1,12 @@
 -- The one form of a configuration as bytes, from which its digest is made (this project's profile).
 use Rattle.std.specs.Prelude.{◌≡◌, ℕ, ◌<◌, ◌^◌, ◌++◌, List, length, flat_map}
 use Rattle.std.specs.List.{AllByRecursion}
-use Rattle.scp_xdr.specs.Kind.{long_word, Fits}
+use Rattle.scp_quorum.specs.scp_xdr.specs.Kind.{Fits}
+unfoldable pub use Rattle.scp_quorum.specs.scp_xdr.specs.Kind.{long_word}
 use Rattle.scp_quorum.specs.QuorumKind.{set_kind, set_value, set_spelling}
 use Rattle.scp_live_config.specs.Names.{Identity}
 use Rattle.scp_live_config.specs.declared.settings.Settings.{Settings}
-use Rattle.scp_types.specs.declared.capacities.Capacities.{Capacities}
+use Rattle.scp_quorum.specs.scp_types.specs.declared.capacities.Capacities.{Capacities}
 
 -- A name and an id: the length of the name as 8 bytes, the name, and the 32 bytes of the id.
 abbrev pub identity_form : Identity → List ℕ

@@ -5,7 +5,7 @@ use Rattle.std.specs.Result.{result_ok}
 use Rattle.std.specs.Str.{bytes_eq}
 use Rattle.hex.specs.Hex.{decode_sized}
 use Rattle.toml.specs.Data.{Data, string, integer, array, Items, no_items, item, Members, no_members, member, get_member}
-use Rattle.scp_types.specs.declared.names.NodeId.{NodeId}
+use Rattle.scp_quorum.specs.scp_types.specs.declared.names.NodeId.{NodeId}
 use Rattle.scp_live_config.specs.declared.wrong.Section.{Section}
 use Rattle.scp_live_config.specs.declared.wrong.Section.TheVariants.{Whole, Set, Queues}
 

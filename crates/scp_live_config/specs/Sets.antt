@@ -1,7 +1,7 @@
 -- What the tables of a configuration give as quorum sets (this project's profile).
 use Rattle.std.specs.Prelude.{◌≡◌, ℕ, ◌+◌, min, List, [], ◌∷◌, length, map, Option, Some, option_and_then, codes}
 use Rattle.toml.specs.Data.{Data, Members, get_member, as_table}
-use Rattle.scp_xdr.specs.Tree.{Trees, no_trees, tree_then, row_len}
+use Rattle.scp_quorum.specs.scp_xdr.specs.Tree.{Trees, no_trees, tree_then, row_len}
 use Rattle.scp_quorum.specs.QuorumTree.{Level, QuorumTree}
 use Rattle.scp_live_config.specs.Names.{Identity, HasOnly, number_to, values_at, node_said}
 use Rattle.scp_live_config.specs.declared.wrong.Section.TheVariants.{Set}

@@ -1,18 +1,18 @@
 //! The one form of a configuration as bytes, and its digest.
 ghost use Rattle.std.specs.Prelude.{◌≡◌, ◌++◌, flat_map, OnOk, IfOk};
 ghost use Rattle.sha2.specs.Sha256.{sha256};
-ghost use Rattle.scp_xdr.specs.Kind.{long_word};
+ghost use Rattle.scp_quorum.specs.scp_xdr.specs.Kind.{long_word};
 ghost use Rattle.scp_quorum.specs.QuorumKind.{set_spelling};
 ghost use Rattle.scp_live_config.specs.Form.{identity_form, identities_form, capacities_form, form};
 
 use crate::settings::{Named, Settings};
 use scp_quorum::SaneSet;
-use scp_types::{Capacities, Hash};
+use scp_quorum::below::types::{Capacities, Hash};
 use sha2::{Digest, Sha256};
 use std::alloc::{AllocError, Global};
 
 /// Adds a number.
-#[tactic(auto, unfolding(scp_xdr::specs::Kind::long_word))]
+#[tactic(auto, unfolding(crate::specs::Form::long_word))]
 fn write_number(out: &mut Vec<u8>, number: u64) -> Result<(), AllocError>
     ensures { OnOk result (out.new.items ≡ out.old.items ++ long_word number) }
 {

@@ -7,7 +7,7 @@ ghost use Rattle.scp_live_config.specs.declared.settings.Settings.{Settings};
 ghost use Rattle.scp_live_config.specs.declared.wrong.Wrong.{Wrong};
 
 use scp_quorum::a_quorum_set_is_its_value;
-use scp_xdr::no_spelling_begins_another;
+use scp_quorum::below::xdr::no_spelling_begins_another;
 
 /// If a fault holds of a document, the document is no valid configuration. So no valid configuration is refused as wrong.
 pub fn what_is_wrong_says_nothing()

@@ -14,7 +14,7 @@ use crate::settings::Named;
 use crate::table::{counted_to, table_at};
 use crate::wrong::Wrong;
 use hex::FromHex;
-use scp_types::NodeId;
+use scp_quorum::below::types::NodeId;
 use std::alloc::Global;
 use toml::{Table, Value};
 

@@ -2,7 +2,7 @@
 ghost use Rattle.std.specs.Prelude.{◌≡◌, map, IfOk, string_bytes};
 
 use crate::settings::{Named, Settings};
-use scp_types::NodeId;
+use scp_quorum::below::types::NodeId;
 use std::alloc::{AllocError, Global};
 
 /// The ids of these nodes.

@@ -12,7 +12,7 @@ use crate::names::{name_said, named};
 use crate::settings::Named;
 use crate::table::find;
 use crate::wrong::Wrong;
-use scp_types::LINK_LIMIT;
+use scp_quorum::below::types::LINK_LIMIT;
 use std::alloc::Global;
 use toml::{Table, Value};
 

@@ -10,7 +10,7 @@ ghost use Rattle.scp_live_config.specs.inside.Faults.{Tells, IsWrongQueue};
 use crate::fault::ConfigFault;
 use crate::table::{find, number_to, stray};
 use crate::wrong::{Queue, Section, Wrong};
-use scp_types::Capacities;
+use scp_quorum::below::types::Capacities;
 use std::alloc::Global;
 use toml::{Table, Value};
 

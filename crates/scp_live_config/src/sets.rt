@@ -2,7 +2,7 @@
 ghost use Rattle.std.specs.Prelude.{◌≡◌, ◌≤◌, Some, List, length, map, IfOk, IfErr, OnOk};
 ghost use Rattle.toml.specs.Data.{Data};
 ghost use Rattle.toml.specs.View.{view, table_view};
-ghost use Rattle.scp_xdr.specs.Tree.{in_a_row};
+ghost use Rattle.scp_quorum.specs.scp_xdr.specs.Tree.{in_a_row};
 ghost use Rattle.scp_quorum.specs.Sane.{IsSane, IsInRange, all_nodes, levels};
 ghost use Rattle.scp_live_config.specs.Names.{HasOnly, node_said};
 ghost use Rattle.scp_live_config.specs.Sets.{SaysSet, SayInner, threshold_in, validators_in, sets_in};
@@ -17,8 +17,8 @@ use crate::names::name_said;
 use crate::settings::Named;
 use crate::table::{find, number_to, stray, table_at, values_at};
 use crate::wrong::{Section, SetWrong, Wrong};
+use scp_quorum::below::types::NodeId;
 use scp_quorum::{QuorumSet, SaneSet};
-use scp_types::NodeId;
 use std::alloc::{AllocError, AllocFailed, Global};
 use toml::{Table, Value};
 

@@ -2,7 +2,7 @@
 ghost use Rattle.std.specs.Prelude.{◌≡◌, IfOk, string_bytes};
 
 use scp_quorum::SaneSet;
-use scp_types::{Capacities, NodeId};
+use scp_quorum::below::types::{Capacities, NodeId};
 use std::alloc::{AllocError, Global};
 use std::marker::Model;
 

@@ -7,9 +7,9 @@ use Rattle.std.proofs.lemmas.Bool.{lt-ltb}
 use Rattle.std.proofs.lemmas.Cmp.{nat_list_eq_equiv}
 use Rattle.std.proofs.lemmas.List.Quantifiers.{position-Some}
 use Rattle.std.proofs.lemmas.Option.{slice_get-get_or}
-use Rattle.scp_types.specs.declared.names.NodeId.{NodeId}
-use Rattle.scp_types.specs.Same.{same_node}
-use Rattle.scp_pending.specs.Peers.{AreApart}
+use Rattle.scp_core.specs.scp_types.specs.declared.names.NodeId.{NodeId}
+use Rattle.scp_core.specs.scp_types.specs.Same.{same_node}
+use Rattle.scp_core.specs.scp_pending.specs.Peers.{AreApart}
 use Rattle.scp_live_lines.specs.Names.{name_at, name_if, name_of}
 
 same_id : (a b : NodeId) → same_node a b ≡ true → a ≡ b

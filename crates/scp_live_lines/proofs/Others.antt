@@ -3,22 +3,22 @@ use Rattle.std.proofs.Common.{◌≡◌, ℕ, zero, suc, Bool, true, false, List
 use Rattle.std.specs.Prelude.{All, position, if◌then◌else◌}
 use Rattle.std.specs.Fmt.{decimal}
 use Rattle.std.proofs.lemmas.List.Elements.{All-head, All-tail}
-use Rattle.scp_types.specs.declared.names.ConnId.{ConnId}
-use Rattle.scp_types.specs.declared.names.NodeId.{NodeId}
-use Rattle.scp_types.specs.Same.{same_node}
-use Rattle.scp_wire.specs.declared.link.Cause.{Cause}
-use Rattle.scp_wire.specs.declared.link.Cause.TheVariants as cause
-use Rattle.scp_pending.specs.declared.ready.DropCause.{DropCause}
-use Rattle.scp_pending.specs.declared.ready.DropCause.TheVariants as drop
-use Rattle.scp_ledger.specs.declared.journal.Verdict.{Verdict}
-use Rattle.scp_ledger.specs.declared.journal.Verdict.TheVariants as verdict
-use Rattle.scp_ledger.specs.declared.journal.Fate.{Fate}
-use Rattle.scp_ledger.specs.declared.journal.Fate.TheVariants.{Taken, Dropped, Closed}
-use Rattle.scp_ledger.specs.declared.journal.Origin.{Origin}
-use Rattle.scp_ledger.specs.declared.journal.Origin.TheVariants.{Machine, Named}
-use Rattle.scp_ledger.specs.declared.journal.Decision.{Decision}
-use Rattle.scp_ledger.specs.scp_slot.specs.declared.timers.Timer.{Timer}
-use Rattle.scp_ledger.specs.scp_slot.specs.declared.timers.Timer.TheVariants.{Round, Ballot}
+use Rattle.scp_core.specs.scp_types.specs.declared.names.ConnId.{ConnId}
+use Rattle.scp_core.specs.scp_types.specs.declared.names.NodeId.{NodeId}
+use Rattle.scp_core.specs.scp_types.specs.Same.{same_node}
+use Rattle.scp_core.specs.scp_wire.specs.declared.link.Cause.{Cause}
+use Rattle.scp_core.specs.scp_wire.specs.declared.link.Cause.TheVariants as cause
+use Rattle.scp_core.specs.scp_pending.specs.declared.ready.DropCause.{DropCause}
+use Rattle.scp_core.specs.scp_pending.specs.declared.ready.DropCause.TheVariants as drop
+use Rattle.scp_core.specs.scp_ledger.specs.declared.journal.Verdict.{Verdict}
+use Rattle.scp_core.specs.scp_ledger.specs.declared.journal.Verdict.TheVariants as verdict
+use Rattle.scp_core.specs.scp_ledger.specs.declared.journal.Fate.{Fate}
+use Rattle.scp_core.specs.scp_ledger.specs.declared.journal.Fate.TheVariants.{Taken, Dropped, Closed}
+use Rattle.scp_core.specs.scp_ledger.specs.declared.journal.Origin.{Origin}
+use Rattle.scp_core.specs.scp_ledger.specs.declared.journal.Origin.TheVariants.{Machine, Named}
+use Rattle.scp_core.specs.scp_ledger.specs.declared.journal.Decision.{Decision}
+use Rattle.scp_core.specs.scp_slot.specs.declared.timers.Timer.{Timer}
+use Rattle.scp_core.specs.scp_slot.specs.declared.timers.Timer.TheVariants.{Round, Ballot}
 use Rattle.scp_core.specs.declared.event.Reply.{Reply}
 use Rattle.scp_core.specs.declared.event.Reply.TheVariants as reply
 use Rattle.scp_words.specs.Words.{verdict_word, cause_word, drop_word, hex_word}

@@ -2,8 +2,8 @@
 use Rattle.std.proofs.Common.{◌≡◌, ◌⊎◌, inl, inr, ◌<◌, ℕ, Bool, true, false, List, [], ◌∷◌, length, take, Option, Some, None, refl, sym, ◌∙◌, ap, subst, arith}
 use Rattle.std.specs.Prelude.{codes, Result, Ok, Err, IfOk}
 use Rattle.std.proofs.lemmas.List.{take_all}
-use Rattle.scp_wire.specs.declared.link.Command.{Command}
-use Rattle.scp_wire.specs.declared.link.Command.TheVariants.{Tick, Propose, Round, Timer, Ask}
+use Rattle.scp_core.specs.scp_wire.specs.declared.link.Command.{Command}
+use Rattle.scp_core.specs.scp_wire.specs.declared.link.Command.TheVariants.{Tick, Propose, Round, Timer, Ask}
 use Rattle.scp_core.specs.declared.event.Event.{Event as Happening}
 use Rattle.scp_core.specs.declared.event.Event.TheVariants.{Open, Send, Close, Local, ReaderTake, ReaderPut, PendTake, PendPut, SlotTake, SlotPut, ApplyTake, Drain}
 use Rattle.scp_script.specs.Words.{is_ascii, is_skipped}

@@ -1,10 +1,10 @@
 -- The lines of decisions and of applied slots (this project's profile).
 use Rattle.std.specs.Prelude.{ℕ, List, ◌++◌, codes}
 use Rattle.std.specs.Fmt.{decimal}
-use Rattle.scp_types.specs.declared.names.NodeId.{NodeId}
-use Rattle.scp_ledger.specs.declared.journal.Origin.{Origin}
-use Rattle.scp_ledger.specs.declared.journal.Origin.TheVariants.{Machine, Named}
-use Rattle.scp_ledger.specs.declared.journal.Decision.{Decision}
+use Rattle.scp_core.specs.scp_types.specs.declared.names.NodeId.{NodeId}
+use Rattle.scp_core.specs.scp_ledger.specs.declared.journal.Origin.{Origin}
+use Rattle.scp_core.specs.scp_ledger.specs.declared.journal.Origin.TheVariants.{Machine, Named}
+use Rattle.scp_core.specs.scp_ledger.specs.declared.journal.Decision.{Decision}
 use Rattle.scp_words.specs.Words.{hex_word}
 use Rattle.scp_live_lines.specs.Fates.{conn_words}
 

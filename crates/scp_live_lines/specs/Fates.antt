@@ -1,10 +1,10 @@
 -- The lines of what became of each message on a connection (this project's profile).
 use Rattle.std.specs.Prelude.{ℕ, List, ◌++◌, codes}
 use Rattle.std.specs.Fmt.{decimal}
-use Rattle.scp_types.specs.declared.names.ConnId.{ConnId}
-use Rattle.scp_types.specs.declared.names.NodeId.{NodeId}
-use Rattle.scp_ledger.specs.declared.journal.Fate.{Fate}
-use Rattle.scp_ledger.specs.declared.journal.Fate.TheVariants.{Taken, Dropped, Closed}
+use Rattle.scp_core.specs.scp_types.specs.declared.names.ConnId.{ConnId}
+use Rattle.scp_core.specs.scp_types.specs.declared.names.NodeId.{NodeId}
+use Rattle.scp_core.specs.scp_ledger.specs.declared.journal.Fate.{Fate}
+use Rattle.scp_core.specs.scp_ledger.specs.declared.journal.Fate.TheVariants.{Taken, Dropped, Closed}
 use Rattle.scp_words.specs.Words.{verdict_word, cause_word, drop_word}
 use Rattle.scp_live_lines.specs.Names.{name_of}
 

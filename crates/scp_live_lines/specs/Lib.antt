@@ -1,4 +1,3 @@
-pub use Rattle.scp_script
 pub mod Says
 pub mod Verbs
 pub mod Bad

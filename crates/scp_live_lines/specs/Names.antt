@@ -1,7 +1,7 @@
 -- The names of peers (this project's profile).
 use Rattle.std.specs.Prelude.{ℕ, List, Option, Some, None, codes, position, slice_index_or}
-use Rattle.scp_types.specs.declared.names.NodeId.{NodeId}
-use Rattle.scp_types.specs.Same.{same_node}
+use Rattle.scp_core.specs.scp_types.specs.declared.names.NodeId.{NodeId}
+use Rattle.scp_core.specs.scp_types.specs.Same.{same_node}
 
 -- The name at this index, or a dash if there is none.
 abbrev pub name_at : List (List ℕ) → ℕ → List ℕ

@@ -1,9 +1,9 @@
 -- The lines that don't say of any message that it was sent (this project's profile).
 use Rattle.std.specs.Prelude.{ℕ, List}
-use Rattle.scp_types.specs.declared.names.NodeId.{NodeId}
-use Rattle.scp_ledger.specs.declared.journal.Fate.{Fate}
-use Rattle.scp_ledger.specs.declared.journal.Decision.{Decision}
-use Rattle.scp_ledger.specs.scp_slot.specs.declared.timers.Timer.{Timer}
+use Rattle.scp_core.specs.scp_types.specs.declared.names.NodeId.{NodeId}
+use Rattle.scp_core.specs.scp_ledger.specs.declared.journal.Fate.{Fate}
+use Rattle.scp_core.specs.scp_ledger.specs.declared.journal.Decision.{Decision}
+use Rattle.scp_core.specs.scp_slot.specs.declared.timers.Timer.{Timer}
 use Rattle.scp_core.specs.declared.event.Reply.{Reply}
 use Rattle.scp_live_lines.specs.Fates.{fate_line}
 use Rattle.scp_live_lines.specs.Decisions.{decided_line, applied_line}

@@ -1,7 +1,7 @@
 -- The lines of a node's state (this project's profile).
 use Rattle.std.specs.Prelude.{ℕ, List, [], Bool, true, false, ◌++◌, codes, nat_lt, if◌then◌else◌}
 use Rattle.std.specs.Fmt.{decimal}
-use Rattle.scp_ledger.specs.declared.journal.TheConstants.{JOURNAL_LIMIT}
+use Rattle.scp_core.specs.scp_ledger.specs.declared.journal.TheConstants.{JOURNAL_LIMIT}
 use Rattle.scp_words.specs.Words.{hex_word}
 
 -- The line of the lowest undecided slot.

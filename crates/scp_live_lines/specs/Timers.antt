@@ -2,8 +2,8 @@
 use Rattle.std.specs.Prelude.{ℕ, List, [], Bool, false, ◌++◌, ◌&&◌, codes, flat_map, nat_eq, if◌then◌else◌}
 use Rattle.std.specs.Fmt.{decimal}
 use Rattle.std.specs.List.{list_any}
-use Rattle.scp_ledger.specs.scp_slot.specs.declared.timers.Timer.{Timer}
-use Rattle.scp_ledger.specs.scp_slot.specs.declared.timers.Timer.TheVariants.{Round, Ballot}
+use Rattle.scp_core.specs.scp_slot.specs.declared.timers.Timer.{Timer}
+use Rattle.scp_core.specs.scp_slot.specs.declared.timers.Timer.TheVariants.{Round, Ballot}
 
 -- Two timers are the same if their kinds, their slots and their numbers are.
 abbrev pub same_timer : Timer → Timer → Bool

@@ -1,7 +1,7 @@
 //! What a line asks for.
 
 use scp_core::Event;
-use scp_types::Slot;
+use scp_core::below::types::Slot;
 
 /// What a line of a host asks for.
 #[derive(Drop)]

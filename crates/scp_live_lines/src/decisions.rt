@@ -3,8 +3,8 @@ ghost use Rattle.std.specs.Prelude.{◌≡◌, ◌++◌, OnOk, map, string_bytes
 ghost use Rattle.scp_live_lines.specs.Decisions.{origin_words, decided_line, applied_line};
 
 use crate::fates::write_conn;
-use scp_ledger::{Decision, Origin};
-use scp_types::NodeId;
+use scp_core::below::ledger::{Decision, Origin};
+use scp_core::below::types::NodeId;
 use scp_words::write_hex;
 use std::alloc::AllocError;
 

@@ -3,8 +3,8 @@ ghost use Rattle.std.specs.Prelude.{◌≡◌, ◌++◌, OnOk, map, string_bytes
 ghost use Rattle.scp_live_lines.specs.Fates.{conn_words, end_words, fate_line};
 
 use crate::names::name_of;
-use scp_ledger::Fate;
-use scp_types::{ConnId, NodeId};
+use scp_core::below::ledger::Fate;
+use scp_core::below::types::{ConnId, NodeId};
 use scp_words::{word_of_cause, word_of_drop, word_of_verdict};
 use std::alloc::AllocError;
 

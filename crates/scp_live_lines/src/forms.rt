@@ -8,9 +8,9 @@ ghost use Rattle.scp_live_lines.specs.Results.{IfBad};
 ghost use Rattle.scp_live_lines.specs.inside.Forms.{SaysPeerAndBytes, SaysSlotAndValue};
 
 use crate::words::{bytes, peer, slot, value};
+use scp_core::below::types::{Slot, Value};
+use scp_core::below::wire::Bytes;
 use scp_script::{BadWord, Expected, WordFault};
-use scp_types::{Slot, Value};
-use scp_wire::Bytes;
 use std::alloc::Global;
 
 /// No word.

@@ -1,7 +1,7 @@
 //! Laws of these lines.
 ghost use Rattle.std.specs.Prelude.{◌≡◌, ◌++◌, ◌∷◌, ℕ, List, Some, All, flat_map, slice_get};
-ghost use Rattle.scp_types.specs.declared.names.NodeId.{NodeId};
-ghost use Rattle.scp_pending.specs.Peers.{AreApart};
+ghost use Rattle.scp_core.specs.scp_types.specs.declared.names.NodeId.{NodeId};
+ghost use Rattle.scp_core.specs.scp_pending.specs.Peers.{AreApart};
 ghost use Rattle.scp_live_lines.specs.Names.{name_at, name_of};
 ghost use Rattle.scp_live_lines.specs.Sent.{send_line};
 ghost use Rattle.scp_live_lines.specs.Back.{sent_in, IsSending, IsWord};

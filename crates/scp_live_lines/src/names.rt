@@ -1,9 +1,9 @@
 //! The names of peers.
 ghost use Rattle.std.specs.Prelude.{◌≡◌, ◌<◌, IfSome, length, map, position, string_bytes};
-ghost use Rattle.scp_types.specs.Same.{same_node};
+ghost use Rattle.scp_core.specs.scp_types.specs.Same.{same_node};
 ghost use Rattle.scp_live_lines.specs.Names.{name_at, name_of};
 
-use scp_types::NodeId;
+use scp_core::below::types::NodeId;
 
 /// The index where the id first occurs among the peers.
 fn place_of(peers: &[NodeId], id: &NodeId) -> Option<usize>

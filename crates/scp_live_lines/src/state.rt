@@ -2,7 +2,7 @@
 ghost use Rattle.std.specs.Prelude.{◌≡◌, ◌++◌, OnOk, string_bytes};
 ghost use Rattle.scp_live_lines.specs.State.{lowest_line, applied_count_line, journal_line, warning_lines, link_line, key_line};
 
-use scp_ledger::JOURNAL_LIMIT;
+use scp_core::below::ledger::JOURNAL_LIMIT;
 use scp_words::write_hex;
 use std::alloc::AllocError;
 

@@ -9,9 +9,9 @@ ghost use Rattle.scp_live_lines.specs.Results.{IfBad};
 
 use arrayvec::ArrayVec;
 use itoa::Buffer;
+use scp_core::below::types::{Slot, Value};
+use scp_core::below::wire::Bytes;
 use scp_script::{BadWord, Expected, WordFault, bytes_of};
-use scp_types::{Slot, Value};
-use scp_wire::Bytes;
 use std::alloc::Global;
 use std::str;
 

@@ -43,3 +43,9 @@ untouched_by holds may_leave moment left_since file old new there at_once crash 
   crash = λ only.
       goes_on moment left_since old old new (λ f. f ≡ file) (may_leave new) (started moment left_since old (λ f. f ≡ file) (λ f left. only f (at_once f left))) time (λ f now. only f (crash f now));
 }
+
+-- a log that was put in the place of another
+pub settled_anew : {L : Type 0} (holds may_leave : L → List ℕ → Type 0) (header : List ℕ) (es : List EntryView) (new : Kept L)
+    → AllByRecursion IsEntry es → new.last.0 ≡ last_digest (sha256 header) (batch_of es) → holds new.log (log_of header (batch_of es)) → Only (log_of header (batch_of es)) (may_leave new.log)
+    → IsSettled holds may_leave header (batch_of es) new
+settled_anew holds may_leave header es new are last file durable = record { file = file; entries = are_marked _ es are; last = last; durable = durable }

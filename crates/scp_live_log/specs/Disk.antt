@@ -1,7 +1,7 @@
 -- What the calls of a disk do to its file, and what a crash may do between two syncs.
 use Rattle.std.specs.Prelude.{◌≡◌, ◌⊎◌, ℕ, ◌≤◌, List, [], ◌++◌, length, Result, IsErrOf, IsErr}
-use Rattle.scp_types.specs.declared.fault.Fault.{Fault}
-use Rattle.scp_types.specs.declared.fault.Fault.TheVariants.{NoMemory, Device}
+use Rattle.scp_device.specs.scp_types.specs.declared.fault.Fault.{Fault}
+use Rattle.scp_device.specs.scp_types.specs.declared.fault.Fault.TheVariants.{NoMemory, Device}
 use Rattle.scp_device.specs.Device.{Fails}
 
 -- The file begins with these bytes.
@@ -20,27 +20,31 @@ pub record Cut (n : ℕ) (old new : List ℕ) : Type 0 where
   pub all : old ≡ new ++ behind
   pub enough : (n ≤ length new) ⊎ (behind ≡ [])
 
--- Each outcome that a crash may leave now is what this step makes of an outcome that a crash could leave before.
-abbrev pub Follows : (List ℕ → List ℕ → Type 0) → (List ℕ → Type 0) → (List ℕ → Type 0) → Type 0
-Follows step old new = (c : List ℕ) → new c → (d : List ℕ) × old d × step d c
+-- What is left is one of two things, whole.
+abbrev pub IsEither : {C : Type 0} → C → C → C → Type 0
+IsEither one other left = (left ≡ one) ⊎ (left ≡ other)
 
--- A crash leaves exactly this file and nothing else.
-abbrev pub Only : List ℕ → (List ℕ → Type 0) → Type 0
-Only file outcomes = (c : List ℕ) → outcomes c → c ≡ file
+-- Each outcome that a crash may leave now is what this step makes of an outcome that a crash could leave before.
+abbrev pub Follows : {C : Type 0} → (C → C → Type 0) → (C → Type 0) → (C → Type 0) → Type 0
+Follows {C} step old new = (c : C) → new c → (d : C) × old d × step d c
+
+-- A crash leaves exactly this and nothing else.
+abbrev pub Only : {C : Type 0} → C → (C → Type 0) → Type 0
+Only {C} file outcomes = (c : C) → outcomes c → c ≡ file
 
 -- Time passes during a call. For a crash since t, each earlier outcome remains possible, and the only new ones are those that a crash
 -- may leave now.
-pub record Elapses (before now : ℕ) (past since : ℕ → List ℕ → Type 0) (may_leave : List ℕ → Type 0) : Type 0 where
+pub record Elapses {C : Type 0} (before now : ℕ) (past since : ℕ → C → Type 0) (may_leave : C → Type 0) : Type 0 where
   pub later : before ≤ now
-  pub nothing_else : (t : ℕ) (c : List ℕ) → t ≤ before → since t c → past t c ⊎ may_leave c
-  pub keeps : (t : ℕ) (c : List ℕ) → t ≤ before → past t c → since t c
+  pub nothing_else : (t : ℕ) (c : C) → t ≤ before → since t c → past t c ⊎ may_leave c
+  pub keeps : (t : ℕ) (c : C) → t ≤ before → past t c → since t c
 
--- A crash at any moment since `old` leaves a file for which P holds.
-pub record LeavesOnly {D : Type 0} (moment : D → ℕ) (left_since : D → ℕ → List ℕ → Type 0) (old new : D) (P : List ℕ → Type 0) : Type 0 where
+-- A crash at any moment since `old` leaves something for which P holds.
+pub record LeavesOnly {D C : Type 0} (moment : D → ℕ) (left_since : D → ℕ → C → Type 0) (old new : D) (P : C → Type 0) : Type 0 where
   pub later : moment old ≤ moment new
-  pub each : (c : List ℕ) → left_since new (moment old) c → P c
+  pub each : (c : C) → left_since new (moment old) c → P c
   -- The same for a span that began before `old`: each outcome was possible already, or P holds for it.
-  pub before : (t : ℕ) (c : List ℕ) → t ≤ moment old → left_since new t c → left_since old t c ⊎ P c
+  pub before : (t : ℕ) (c : C) → t ≤ moment old → left_since new t c → left_since old t c ⊎ P c
 
 -- A refusal is `Device` or `NoMemory`. `Device` means that the disk failed; otherwise the count of its failures stays the same.
 pub record HasCause {T : Type 0} (before now : ℕ) (result : Result T Fault) : Type 0 where

@@ -1,3 +1,4 @@
+pub use Rattle.scp_device
 pub mod Disk
 pub mod Log
 pub mod Kept

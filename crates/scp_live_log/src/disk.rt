@@ -1,8 +1,8 @@
 //! A disk as the log sees it: what a read returns, and what a crash may leave.
 ghost use Rattle.std.specs.Prelude.{◌≡◌, ◌≤◌, ◌++◌, ℕ, List, length, take, IfOk, OnOk};
-ghost use Rattle.scp_live_log.specs.Disk.{Only, Follows, Torn, Cut, Elapses, HasCause};
+ghost use Rattle.scp_live_log.specs.Disk.{Only, Follows, Torn, Cut, Elapses, LeavesOnly, IsEither, HasCause};
 
-use scp_types::Fault;
+use scp_device::below::types::Fault;
 use std::alloc::Global;
 
 /// The disk that holds the log. Each call may be refused by `Fault::Device` if the disk failed, or by `Fault::NoMemory`.
@@ -50,6 +50,13 @@ pub trait EventLog {
         ensures stays { (c : List ℕ) → holds self.old c → holds self.new c }
         ensures crash { (c : List ℕ) → may_leave self.new c → may_leave self.old c }
         ensures time { Elapses (moment self.old) (moment self.new) (left_since self.old) (left_since self.new) (may_leave self.new) }
+        ensures cause { HasCause (faults self.old) (faults self.new) result };
+
+    /// Puts other bytes in the place of all that is there, and has them on the disk.
+    fn replace(&mut self, bytes: &[u8]) -> Result<(), Fault>
+        ensures replaced { OnOk result ((c : List ℕ) → holds self.old c → holds self.new bytes.now × Only bytes.now (may_leave self.new)) }
+        // If all that was there is on the disk, a crash at any moment of the call leaves it or the other bytes, whole.
+        ensures any_moment { (c : List ℕ) → holds self.old c → Only c (may_leave self.old) → LeavesOnly moment left_since self.old self.new (IsEither c bytes.now) }
         ensures cause { HasCause (faults self.old) (faults self.new) result };
 
     /// The present moment counts among the moments since an earlier one.

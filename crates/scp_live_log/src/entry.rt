@@ -3,7 +3,7 @@ ghost use Rattle.std.specs.Prelude.{◌≡◌, ◌++◌, ◌∷◌, [], IfOk, On
 ghost use Rattle.hex.specs.Hex.{encode_lower};
 ghost use Rattle.scp_live_log.specs.Log.{chained, mark_of, spelled_entry, spelled, last_digest, batch_of};
 
-use scp_types::Hash;
+use scp_device::below::types::Hash;
 use sha2::{Digest, Sha256};
 use std::alloc::{AllocError, Global};
 use std::marker::Model;

@@ -4,7 +4,7 @@ ghost use Rattle.scp_device.specs.Device.{Fails};
 ghost use Rattle.scp_live_log.specs.Disk.{HasCause};
 
 use crate::disk::EventLog;
-use scp_types::Fault;
+use scp_device::below::types::Fault;
 use std::alloc::Global;
 use std::fs::File;
 use std::io::{ErrorKind, Read, Seek, SeekFrom, Write};
@@ -96,5 +96,10 @@ impl EventLog for FileLog {
             Ok(()) => Ok(()),
             Err(_) => Err(self.fail()),
         }
+    }
+
+    // (a file that has no folder of its own can't be replaced in one step)
+    fn replace(&mut self, _bytes: &[u8]) -> Result<(), Fault> {
+        Err(self.fail())
     }
 }

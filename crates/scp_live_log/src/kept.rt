@@ -1,10 +1,10 @@
 //! A log in use: how entries are kept, and what is read after a crash.
 ghost use Rattle.std.specs.Prelude.{◌≡◌, ◌≢◌, ◌⊎◌, ◌++◌, [], List, ℕ, drop, IfOk, IfErr, OnOk, OnErr, IsErrOf, Err, All, string_bytes};
-ghost use Rattle.scp_types.specs.declared.fault.Fault.{Fault};
-ghost use Rattle.scp_types.specs.declared.fault.Fault.TheVariants.{NoMemory};
+ghost use Rattle.scp_device.specs.scp_types.specs.declared.fault.Fault.{Fault};
+ghost use Rattle.scp_device.specs.scp_types.specs.declared.fault.Fault.TheVariants.{NoMemory};
 ghost use Rattle.scp_live_log.specs.declared.kept.LogFault.TheVariants.{Failed};
 ghost use Rattle.scp_device.specs.Device.{Gains, GainsPart, Fails};
-ghost use Rattle.scp_live_log.specs.Disk.{StartsWith, Only, LeavesOnly};
+ghost use Rattle.scp_live_log.specs.Disk.{StartsWith, Only, LeavesOnly, IsEither};
 ghost use Rattle.scp_live_log.specs.Log.{Marked, IsLine, IsEntry, AreEntries, HasNoEntry, HasBatch, batch_of, entries_of, log_of, last_digest};
 ghost use Rattle.sha2.specs.Sha256.{sha256};
 ghost use Rattle.scp_live_log.specs.inside.Front.{IsLogFront};
@@ -14,8 +14,8 @@ use crate::disk::EventLog;
 use crate::entry::{Entry, batch_bytes};
 use crate::reading::{Front, begins_with, behind, has_batch, is_beginning, read_entries};
 use crate::steps::{add, cut_to};
+use scp_device::below::types::{Fault, Hash};
 use scp_device::{ReportOut, write_text};
-use scp_types::{Fault, Hash};
 use sha2::{Digest, Sha256};
 use std::alloc::{AllocError, Global};
 
@@ -134,6 +134,26 @@ impl<L: EventLog> Kept<L> {
         Ok(())
     }
 
+    /// Begins another log in the place of this one: its first lines and a batch of entries. Nothing of the other log may be written before
+    /// the call has succeeded. Refused by `Fault::NoMemory`, which leaves the log as it was or the other one, or by `Fault::Device` if the
+    /// disk failed. After a refusal, call `recover` before you keep anything more.
+    pub fn switch(&mut self, alloc: Global, header: &[u8], entries: &[Entry]) -> Result<(), Fault>
+        requires entries { All IsEntry entries.now }
+        ensures switched { OnOk result ((c : List ℕ) → L.holds self.old.log c → IsSettled L.holds L.may_leave header.now (batch_of entries.now) self.new) }
+        // A crash at any moment of the call leaves the log as it was or the other one, whole.
+        ensures any_moment { (old : List ℕ) (ms : List Marked) → IsSettled L.holds L.may_leave old ms self.old → LeavesOnly L.moment L.left_since self.old.log self.new.log (IsEither (log_of old ms) (log_of header.now (batch_of entries.now))) }
+        ensures failed { IsErrOf result Fault.Device → Fails (L.faults self.old.log) (L.faults self.new.log) }
+        ensures quiet { OnOk result (L.faults self.new.log ≡ L.faults self.old.log) }
+        // A failure of the disk is always reported as `Fault::Device`.
+        ensures hidden { IfErr result (λ fault. fault ≢ Fault.Device → L.faults self.new.log ≡ L.faults self.old.log) }
+        ensures only { IfErr result (λ fault. (fault ≡ Fault.Device) ⊎ (fault ≡ Fault.NoMemory)) }
+    {
+        let (bytes, digest) = log_bytes(alloc, header, entries)?;
+        self.log.replace(&bytes)?;
+        self.last = digest;
+        Ok(())
+    }
+
     /// Makes the file contain only the first line.
     fn begin(&mut self, header: &[u8]) -> Result<(), Fault>
         ensures begun { OnOk result ((c : List ℕ) → L.holds self.old.log c → IsSettled L.holds L.may_leave header.now [] self.new) }
@@ -207,4 +227,16 @@ fn front_of(alloc: Global, header: &[u8], bytes: &[u8]) -> Result<Front, LogFaul
         last: front.last,
         size: header.len() + front.size,
     })
+}
+
+/// The bytes of a log of these first lines and one batch, and the digest of its last entry.
+fn log_bytes(alloc: Global, header: &[u8], entries: &[Entry]) -> Result<(Vec<u8>, Hash), AllocError>
+    ensures bytes { IfOk result (λ log. log.0.items ≡ log_of header.now (batch_of entries.now)) }
+    ensures digest { IfOk result (λ log. log.1.0 ≡ last_digest (sha256 header.now) (batch_of entries.now)) }
+{
+    let first = Hash(Sha256::digest(header));
+    let (batch, last) = batch_bytes(alloc, first, entries)?;
+    let mut bytes = Vec::from_slice(alloc, header)?;
+    bytes.extend_from_slice(&batch)?;
+    Ok((bytes, last))
 }

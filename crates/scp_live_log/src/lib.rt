@@ -13,6 +13,7 @@
 //! bytes reach the system, so only the failures of a `FileLog` are known.
 #![tactic(auto)]
 
+pub mod below;
 mod disk;
 mod entry;
 mod file;
@@ -26,3 +27,5 @@ pub use entry::Entry;
 pub use file::FileLog;
 pub use kept::{Durable, Kept, LogFault};
 pub use memory::MemoryLog;
+pub use reading::{begins_with, read_digest};
+pub use steps::{add, cut_to};

@@ -4,7 +4,7 @@ ghost use Rattle.std.proofs.Common.{inl};
 ghost use Rattle.scp_live_log.specs.Past.{HadBeen, only_bytes};
 
 use crate::disk::EventLog;
-use scp_types::Fault;
+use scp_device::below::types::Fault;
 use std::alloc::{AllocError, Global};
 
 /// A log in memory.
@@ -37,8 +37,8 @@ impl MemoryLog {
     }
 }
 
-/// Replaces the bytes that are there, and keeps them as a past content.
-fn replace(
+/// Puts other bytes in the place of those that are there, and keeps these as a past content.
+fn put(
     alloc: Global,
     bytes: &mut Vec<u8>,
     past: &mut Vec<Vec<u8>>,
@@ -76,16 +76,21 @@ impl EventLog for MemoryLog {
     fn append(&mut self, bytes: &[u8]) -> Result<(), Fault> {
         let mut next = self.bytes.to_vec(self.alloc)?;
         next.extend_from_slice(bytes)?;
-        Ok(replace(self.alloc, &mut self.bytes, &mut self.past, next)?)
+        Ok(put(self.alloc, &mut self.bytes, &mut self.past, next)?)
     }
 
     fn cut(&mut self, length: usize) -> Result<(), Fault> {
         let end = length.min(self.bytes.len());
         let next = self.bytes[..end].to_vec(self.alloc)?;
-        Ok(replace(self.alloc, &mut self.bytes, &mut self.past, next)?)
+        Ok(put(self.alloc, &mut self.bytes, &mut self.past, next)?)
     }
 
     fn sync(&mut self) -> Result<(), Fault> {
         Ok(())
+    }
+
+    fn replace(&mut self, bytes: &[u8]) -> Result<(), Fault> {
+        let next = Vec::from_slice(self.alloc, bytes)?;
+        Ok(put(self.alloc, &mut self.bytes, &mut self.past, next)?)
     }
 }

@@ -7,7 +7,7 @@ ghost use Rattle.scp_live_log.specs.Log.{EntryView, IsLine, IsDigest, IsEntry, H
 ghost use Rattle.scp_live_log.specs.inside.Front.{IsFront, EndsAt};
 
 use crate::entry::{Entry, add_entry};
-use scp_types::Hash;
+use scp_device::below::types::Hash;
 use std::alloc::{AllocError, Global};
 
 /// Where the digits of the digest of what was sent begin, counted from the line end: after it and `= `.
@@ -42,7 +42,7 @@ fn line_end(bytes: &[u8]) -> Option<usize>
 }
 
 /// Whether the bytes begin with `front`.
-pub(crate) fn begins_with(bytes: &[u8], front: &[u8]) -> bool
+pub fn begins_with(bytes: &[u8], front: &[u8]) -> bool
     ensures some { OnTrue result ((length front.now ≤ length bytes.now) × (bytes.now ≡ front.now ++ drop (length front.now) bytes.now)) }
     ensures none { OnFalse result (¬ (StartsWith front.now bytes.now)) }
 {
@@ -58,7 +58,7 @@ pub(crate) fn is_beginning(bytes: &[u8], whole: &[u8]) -> bool
 }
 
 /// The digest that 64 hexadecimal digits encode.
-fn digest_of(digits: &[u8]) -> Option<Hash>
+pub fn read_digest(digits: &[u8]) -> Option<Hash>
     ensures size { IfSome result (λ hash. IsDigest hash.0) }
     ensures found { (hash : List ℕ) → IsDigest hash → digits.now ≡ encode_lower hash → IsSomeAnd result (λ found. found.0 ≡ hash) }
 {
@@ -88,7 +88,7 @@ fn parts_behind(mark: u8, rest: &[u8]) -> Option<Parts<'_>>
     let end = line_end(rest)?;
     let (line, behind) = rest.split_at(end);
     let digits = sent_digits(behind)?;
-    let sent = digest_of(digits)?;
+    let sent = read_digest(digits)?;
     Some(Parts {
         begins: mark == b'+',
         line,

@@ -1,13 +1,13 @@
 -- An event that was played, or refused, as a watch was shown it.
 use Rattle.std.proofs.Common.{◌≡◌, true, List, ap}
 use Rattle.std.specs.Prelude.{Err, IsErrOf, ◌↔◌}
-use Rattle.scp_types.specs.declared.fault.Fault.{Fault}
-use Rattle.scp_types.specs.declared.fault.Fault.TheVariants.{JournalFull}
-use Rattle.scp_types.specs.declared.names.Hash.{Hash}
-use Rattle.scp_turn.specs.scp_core.specs.History.{Exchange}
-use Rattle.scp_turn.specs.scp_core.specs.Kv.{NodeView}
-use Rattle.scp_turn.specs.Kv.{Goes, Noting, Watched}
-use Rattle.scp_live.specs.scp_turn.specs.Episode.{finds_full}
+use Rattle.scp_stand_node.specs.scp_types.specs.declared.fault.Fault.{Fault}
+use Rattle.scp_stand_node.specs.scp_types.specs.declared.fault.Fault.TheVariants.{JournalFull}
+use Rattle.scp_stand_node.specs.scp_types.specs.declared.names.Hash.{Hash}
+use Rattle.scp_stand_node.specs.scp_core.specs.History.{Exchange}
+use Rattle.scp_stand_node.specs.scp_core.specs.Kv.{NodeView}
+use Rattle.scp_stand_node.specs.scp_turn.specs.Kv.{Goes, Noting, Watched}
+use Rattle.scp_stand_node.specs.scp_turn.specs.Episode.{finds_full}
 use Rattle.scp_live_process.proofs.Going.{Seen}
 
 same_fault : (f g : Fault) → IsErrOf {T = Hash} (Err f) g → f ≡ g

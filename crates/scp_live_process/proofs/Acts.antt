@@ -1,26 +1,26 @@
 -- What an event, a question or a bad line adds to a batch.
 use Rattle.std.proofs.Common.{◌≡◌, ℕ, true, false, List, [], ◌∷◌, ◌++◌, refl, sym, ◌∙◌, ap, subst, arith, inl, inr, ⊎_elim}
 use Rattle.std.specs.Prelude.{◌⊎◌, ◌↔◌, Option, None, Some, IfNone, Result, Ok, Err, IfSome, OnOk, IfErr, IsErrOf, IsOkUnless}
-use Rattle.scp_types.specs.declared.fault.Fault.{Fault}
-use Rattle.scp_types.specs.declared.fault.Fault.TheVariants.{NoMemory, TooLong, JournalFull, Device}
-use Rattle.scp_types.specs.declared.names.Hash.{Hash}
-use Rattle.scp_turn.specs.scp_core.specs.declared.event.Event.{Event as Happening}
-use Rattle.scp_turn.specs.scp_core.specs.History.{Exchange}
-use Rattle.scp_turn.specs.scp_core.specs.Kv.{NodeView}
-use Rattle.scp_turn.specs.Kv.{Goes, Noting}
-use Rattle.scp_live.specs.scp_turn.specs.Episode.{finds_full}
-use Rattle.scp_live_log.specs.Log.{EntryView}
-use Rattle.scp_wire.specs.declared.message.Message.{Message}
-use Rattle.scp_live_lines.specs.Sent.{again_line}
+use Rattle.scp_stand_node.specs.scp_types.specs.declared.fault.Fault.{Fault}
+use Rattle.scp_stand_node.specs.scp_types.specs.declared.fault.Fault.TheVariants.{NoMemory, TooLong, JournalFull, Device}
+use Rattle.scp_stand_node.specs.scp_types.specs.declared.names.Hash.{Hash}
+use Rattle.scp_stand_node.specs.scp_core.specs.declared.event.Event.{Event as Happening}
+use Rattle.scp_stand_node.specs.scp_core.specs.History.{Exchange}
+use Rattle.scp_stand_node.specs.scp_core.specs.Kv.{NodeView}
+use Rattle.scp_stand_node.specs.scp_turn.specs.Kv.{Goes, Noting}
+use Rattle.scp_stand_node.specs.scp_turn.specs.Episode.{finds_full}
+use Rattle.scp_batches.specs.scp_live_log.specs.Log.{EntryView}
+use Rattle.scp_stand_node.specs.scp_wire.specs.declared.message.Message.{Message}
+use Rattle.scp_live.specs.scp_live_lines.specs.Sent.{again_line}
 use Rattle.std.specs.Prelude.{flat_map}
 use Rattle.scp_live.specs.Live.{LiveView, IsTold}
 use Rattle.scp_live.specs.Again.{SaysAgain}
-use Rattle.scp_live_lines.specs.declared.asked.Asked.{Asked}
-use Rattle.scp_live_lines.specs.declared.asked.Asked.TheVariants.{Event, Again, State, Report, Stand, Applied, Nothing}
-use Rattle.scp_script.specs.scp_device.specs.declared.bad.WordFault.{WordFault}
-use Rattle.scp_script.specs.scp_device.specs.declared.bad.WordFault.TheVariants.{Bad}
-use Rattle.scp_script.specs.scp_device.specs.declared.bad.BadWord.{BadWord}
-use Rattle.scp_live_lines.specs.Results.{IfRefusal}
+use Rattle.scp_live.specs.scp_live_lines.specs.declared.asked.Asked.{Asked}
+use Rattle.scp_live.specs.scp_live_lines.specs.declared.asked.Asked.TheVariants.{Event, Again, State, Report, Stand, Applied, Nothing}
+use Rattle.scp_stand_node.specs.scp_device.specs.declared.bad.WordFault.{WordFault}
+use Rattle.scp_stand_node.specs.scp_device.specs.declared.bad.WordFault.TheVariants.{Bad}
+use Rattle.scp_stand_node.specs.scp_device.specs.declared.bad.BadWord.{BadWord}
+use Rattle.scp_live.specs.scp_live_lines.specs.Results.{IfRefusal}
 use Rattle.scp_live_process.specs.Answers.{IsPlayed, IsDone, Replies}
 use Rattle.scp_live_process.specs.Stands.{TellsStand}
 use Rattle.scp_live.specs.Living.{IsLive}

@@ -1,21 +1,21 @@
 -- What lines are answered, one behind the other.
 use Rattle.std.proofs.Common.{◌≡◌, ℕ, Bool, true, false, List, [], ◌∷◌, ◌++◌, refl, sym, ◌∙◌, ap, subst, append_assoc, append-nil, arith, inl, inr}
 use Rattle.std.specs.Prelude.{◌≤◌, ◌<◌, ◌↔◌, IsTrue, length}
-use Rattle.scp_turn.specs.scp_core.specs.declared.event.Event.{Event as Happening}
-use Rattle.scp_turn.specs.scp_core.specs.declared.event.Event.TheVariants as happening
-use Rattle.scp_turn.specs.scp_core.specs.History.{Exchange}
-use Rattle.scp_live_log.specs.Log.{EntryView}
+use Rattle.scp_stand_node.specs.scp_core.specs.declared.event.Event.{Event as Happening}
+use Rattle.scp_stand_node.specs.scp_core.specs.declared.event.Event.TheVariants as happening
+use Rattle.scp_stand_node.specs.scp_core.specs.History.{Exchange}
+use Rattle.scp_batches.specs.scp_live_log.specs.Log.{EntryView}
 use Rattle.scp_batches.specs.declared.line.TheConstants.{LINE_LIMIT}
-use Rattle.scp_live.specs.scp_turn.specs.Episode.{IsOfHost}
-use Rattle.scp_live_lines.specs.declared.asked.Asked.{Asked}
-use Rattle.scp_live_lines.specs.declared.asked.Asked.TheVariants.{Event, Again, State, Report, Stand, Applied, Nothing}
-use Rattle.scp_script.specs.scp_device.specs.Expected.{words_of}
-use Rattle.scp_script.specs.scp_device.specs.declared.bad.BadWord.{BadWord}
-use Rattle.scp_script.specs.Words.{is_skipped}
-use Rattle.scp_script.specs.Reasons.{parts_of}
-use Rattle.scp_live_lines.specs.Says.{Says, SaysBy, SaysEvent}
-use Rattle.scp_live_lines.specs.Bad.{IsFirstBad}
-use Rattle.scp_live_lines.specs.Replies.{ok_line}
+use Rattle.scp_stand_node.specs.scp_turn.specs.Episode.{IsOfHost}
+use Rattle.scp_live.specs.scp_live_lines.specs.declared.asked.Asked.{Asked}
+use Rattle.scp_live.specs.scp_live_lines.specs.declared.asked.Asked.TheVariants.{Event, Again, State, Report, Stand, Applied, Nothing}
+use Rattle.scp_stand_node.specs.scp_device.specs.Expected.{words_of}
+use Rattle.scp_stand_node.specs.scp_device.specs.declared.bad.BadWord.{BadWord}
+use Rattle.scp_stand_node.specs.scp_script.specs.Words.{is_skipped}
+use Rattle.scp_stand_node.specs.scp_script.specs.Reasons.{parts_of}
+use Rattle.scp_live.specs.scp_live_lines.specs.Says.{Says, SaysBy, SaysEvent}
+use Rattle.scp_live.specs.scp_live_lines.specs.Bad.{IsFirstBad}
+use Rattle.scp_live.specs.scp_live_lines.specs.Replies.{ok_line}
 use Rattle.scp_live.specs.Live.{LiveView}
 use Rattle.scp_live_process.specs.Answers.{IsQuiet, Replies, IsDone, IsAnswered, AreAnswered, next_number, bad_line, long_line}
 use Rattle.scp_live_process.specs.inside.Adding.{BatchView, TellsMore, Adds, Asks}

@@ -1,11 +1,11 @@
 -- A node that was made of settings, and ran.
 use Rattle.std.proofs.Common.{◌≡◌, ℕ, List, [], Option, subst}
 use Rattle.std.specs.Prelude.{Result, Ok, Err, OnOk}
-use Rattle.scp_turn.specs.scp_core.specs.Kv.{TheoremGivesLedger, LedgerGivesHeadline}
-use Rattle.scp_turn.specs.Kv.{Noting, Watched}
-use Rattle.scp_live_log.specs.declared.kept.Kept.{Kept}
-use Rattle.scp_live_log.specs.declared.kept.LogFault.{LogFault}
-use Rattle.scp_live_config.specs.declared.settings.Settings.{Settings}
+use Rattle.scp_stand_node.specs.scp_core.specs.Kv.{TheoremGivesLedger, LedgerGivesHeadline}
+use Rattle.scp_stand_node.specs.scp_turn.specs.Kv.{Noting, Watched}
+use Rattle.scp_batches.specs.scp_live_log.specs.declared.kept.Kept.{Kept}
+use Rattle.scp_batches.specs.scp_live_log.specs.declared.kept.LogFault.{LogFault}
+use Rattle.scp_live.specs.scp_live_config.specs.declared.settings.Settings.{Settings}
 use Rattle.scp_live.specs.Live.{LiveView}
 use Rattle.scp_live.specs.Beginning.{IsNew, digest_of, header_of}
 use Rattle.scp_live_process.specs.Starting.{HasRun, RunsAs}

@@ -1,14 +1,14 @@
 -- No step changes a node's configuration.
 use Rattle.std.proofs.Common.{◌≡◌, ℕ, List, [], ◌∷◌, ◌∙◌, ap, ⊎_elim}
-use Rattle.scp_turn.specs.scp_core.specs.declared.config.Config.{Config}
-use Rattle.scp_turn.specs.scp_core.specs.declared.event.Event.{Event}
-use Rattle.scp_turn.specs.scp_core.specs.declared.event.Event.TheVariants as event
-use Rattle.scp_turn.specs.scp_core.specs.declared.event.Reply.{Reply}
-use Rattle.scp_turn.specs.scp_core.specs.declared.event.Reply.TheVariants as reply
-use Rattle.scp_turn.specs.scp_core.specs.History.{Exchange}
-use Rattle.scp_turn.specs.scp_core.specs.Node.{Accepts, SendsOut, PendBrings, PendTakes}
-use Rattle.scp_turn.specs.scp_core.specs.Kv.{NodeView, Moves, Step}
-use Rattle.scp_turn.specs.Kv.{Does}
+use Rattle.scp_stand_node.specs.scp_core.specs.declared.config.Config.{Config}
+use Rattle.scp_stand_node.specs.scp_core.specs.declared.event.Event.{Event}
+use Rattle.scp_stand_node.specs.scp_core.specs.declared.event.Event.TheVariants as event
+use Rattle.scp_stand_node.specs.scp_core.specs.declared.event.Reply.{Reply}
+use Rattle.scp_stand_node.specs.scp_core.specs.declared.event.Reply.TheVariants as reply
+use Rattle.scp_stand_node.specs.scp_core.specs.History.{Exchange}
+use Rattle.scp_stand_node.specs.scp_core.specs.Node.{Accepts, SendsOut, PendBrings, PendTakes}
+use Rattle.scp_stand_node.specs.scp_core.specs.Kv.{NodeView, Moves, Step}
+use Rattle.scp_stand_node.specs.scp_turn.specs.Kv.{Does}
 
 abbrev config : NodeView → Config
 config v = v.config

@@ -1,16 +1,16 @@
 -- How a run ends that isn't served to its end.
 use Rattle.std.proofs.Common.{◌≡◌, ℕ, true, List, [], sym, ap, subst, inl, inr, ⊎_elim}
 use Rattle.std.specs.Prelude.{◌≢◌, ◌⊎◌, Result, Ok, Err, IfErr, IsErrOf}
-use Rattle.scp_types.specs.declared.fault.Fault.{Fault}
-use Rattle.scp_types.specs.declared.fault.Fault.TheVariants.{NoMemory, TooLong, BadConfig, JournalFull, Device}
-use Rattle.scp_turn.specs.scp_core.specs.Config.{IsConfigOfMany}
-use Rattle.scp_turn.specs.scp_core.specs.History.{Exchange}
-use Rattle.scp_turn.specs.scp_core.specs.Kv.{TheoremGivesLedger, LedgerGivesHeadline}
-use Rattle.scp_live.specs.scp_turn.specs.Episode.{finds_full}
-use Rattle.scp_live_log.specs.declared.kept.Kept.{Kept}
-use Rattle.scp_live_log.specs.declared.kept.LogFault.{LogFault}
-use Rattle.scp_live_log.specs.declared.kept.LogFault.TheVariants.{Failed}
-use Rattle.scp_live_config.specs.declared.settings.Settings.{Settings}
+use Rattle.scp_stand_node.specs.scp_types.specs.declared.fault.Fault.{Fault}
+use Rattle.scp_stand_node.specs.scp_types.specs.declared.fault.Fault.TheVariants.{NoMemory, TooLong, BadConfig, JournalFull, Device}
+use Rattle.scp_stand_node.specs.scp_core.specs.Config.{IsConfigOfMany}
+use Rattle.scp_stand_node.specs.scp_core.specs.History.{Exchange}
+use Rattle.scp_stand_node.specs.scp_core.specs.Kv.{TheoremGivesLedger, LedgerGivesHeadline}
+use Rattle.scp_stand_node.specs.scp_turn.specs.Episode.{finds_full}
+use Rattle.scp_batches.specs.scp_live_log.specs.declared.kept.Kept.{Kept}
+use Rattle.scp_batches.specs.scp_live_log.specs.declared.kept.LogFault.{LogFault}
+use Rattle.scp_batches.specs.scp_live_log.specs.declared.kept.LogFault.TheVariants.{Failed}
+use Rattle.scp_live.specs.scp_live_config.specs.declared.settings.Settings.{Settings}
 use Rattle.scp_live.specs.Live.{LiveView}
 use Rattle.scp_live.specs.Beginning.{IsNew, config_in, digest_of, header_of}
 use Rattle.scp_live.specs.Failing.{IsReported}

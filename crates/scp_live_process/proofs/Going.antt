@@ -1,9 +1,9 @@
 -- A node that heard more, and a watch that was told of it.
 use Rattle.std.proofs.Common.{◌≡◌, true, false, List, [], ◌++◌, refl}
-use Rattle.scp_live.specs.scp_turn.specs.Episode.{finds_full}
-use Rattle.scp_turn.specs.scp_core.specs.History.{Exchange}
-use Rattle.scp_turn.specs.scp_core.specs.Kv.{NodeView}
-use Rattle.scp_turn.specs.Kv.{Goes, Noting, Watched}
+use Rattle.scp_stand_node.specs.scp_turn.specs.Episode.{finds_full}
+use Rattle.scp_stand_node.specs.scp_core.specs.History.{Exchange}
+use Rattle.scp_stand_node.specs.scp_core.specs.Kv.{NodeView}
+use Rattle.scp_stand_node.specs.scp_turn.specs.Kv.{Goes, Noting, Watched}
 use Rattle.scp_live.proofs.Going.{Heard, heard_nothing, heard_as, heard_then, watched_on, none_full}
 
 -- a node that heard this much more, and a watch that was told of each step

@@ -1,18 +1,18 @@
 -- Why a node doesn't start, and what stays of its log.
 use Rattle.std.proofs.Common.{◌≡◌, ℕ, true, List, [], ◌++◌, refl, sym, ◌∙◌, ap, subst, append-nil, inl, inr, ⊎_elim}
 use Rattle.std.specs.Prelude.{◌≤◌, ◌⊎◌, ◌↔◌, Ok, Err, IsErrOf}
-use Rattle.scp_types.specs.declared.fault.Fault.{Fault}
-use Rattle.scp_types.specs.declared.fault.Fault.TheVariants as fault
-use Rattle.scp_device.specs.Device.{Fails}
-use Rattle.scp_turn.specs.scp_core.specs.History.{Exchange}
-use Rattle.scp_turn.specs.Turn.{links_of}
-use Rattle.scp_live.specs.scp_turn.specs.Episode.{finds_full}
-use Rattle.scp_live_log.specs.declared.kept.Kept.{Kept}
-use Rattle.scp_live_log.specs.declared.kept.LogFault.{LogFault}
-use Rattle.scp_live_log.specs.declared.kept.LogFault.TheVariants.{Another, Damaged, Failed}
-use Rattle.scp_live_log.specs.Disk.{StartsWith, Only, LeavesOnly}
-use Rattle.scp_live_log.specs.Kept.{IsAnother, IsDamaged}
-use Rattle.scp_live_log.specs.Log.{EntryView, Marked, AreEntries, entries_of, log_of}
+use Rattle.scp_stand_node.specs.scp_types.specs.declared.fault.Fault.{Fault}
+use Rattle.scp_stand_node.specs.scp_types.specs.declared.fault.Fault.TheVariants as fault
+use Rattle.scp_stand_node.specs.scp_device.specs.Device.{Fails}
+use Rattle.scp_stand_node.specs.scp_core.specs.History.{Exchange}
+use Rattle.scp_stand_node.specs.scp_turn.specs.Turn.{links_of}
+use Rattle.scp_stand_node.specs.scp_turn.specs.Episode.{finds_full}
+use Rattle.scp_batches.specs.scp_live_log.specs.declared.kept.Kept.{Kept}
+use Rattle.scp_batches.specs.scp_live_log.specs.declared.kept.LogFault.{LogFault}
+use Rattle.scp_batches.specs.scp_live_log.specs.declared.kept.LogFault.TheVariants.{Another, Damaged, Failed}
+use Rattle.scp_batches.specs.scp_live_log.specs.Disk.{StartsWith, Only, LeavesOnly}
+use Rattle.scp_batches.specs.scp_live_log.specs.Kept.{IsAnother, IsDamaged}
+use Rattle.scp_batches.specs.scp_live_log.specs.Log.{EntryView, Marked, AreEntries, entries_of, log_of}
 use Rattle.scp_live.specs.Live.{LiveView}
 use Rattle.scp_live.specs.Replays.{AreReplayed, IsUnfitAt}
 use Rattle.scp_live_process.specs.Closing.{open_links, MayBeOpen, HasNoCloseLine}

@@ -1,13 +1,13 @@
 -- That what is kept of lines that were answered is what was played.
 use Rattle.std.proofs.Common.{ℕ, List, [], ◌∷◌, ◌++◌, sym, subst, ⊎_elim}
 use Rattle.std.specs.Prelude.{◌≤◌, ◌⊎◌, length}
-use Rattle.scp_turn.specs.scp_core.specs.declared.event.Event.{Event as Happening}
-use Rattle.scp_turn.specs.scp_core.specs.History.{Exchange}
-use Rattle.scp_live_log.specs.Log.{EntryView}
+use Rattle.scp_stand_node.specs.scp_core.specs.declared.event.Event.{Event as Happening}
+use Rattle.scp_stand_node.specs.scp_core.specs.History.{Exchange}
+use Rattle.scp_batches.specs.scp_live_log.specs.Log.{EntryView}
 use Rattle.scp_batches.specs.declared.line.TheConstants.{LINE_LIMIT}
-use Rattle.scp_live_lines.specs.declared.asked.Asked.{Asked}
-use Rattle.scp_live_lines.specs.declared.asked.Asked.TheVariants.{Event, Again, State, Report, Stand, Applied, Nothing}
-use Rattle.scp_live_lines.specs.Says.{Says}
+use Rattle.scp_live.specs.scp_live_lines.specs.declared.asked.Asked.{Asked}
+use Rattle.scp_live.specs.scp_live_lines.specs.declared.asked.Asked.TheVariants.{Event, Again, State, Report, Stand, Applied, Nothing}
+use Rattle.scp_live.specs.scp_live_lines.specs.Says.{Says}
 use Rattle.scp_live.specs.Live.{LiveView}
 use Rattle.scp_live.specs.Replays.{AreReplayed}
 use Rattle.scp_live.proofs.Replaying.{replayed_one, replayed_on}

@@ -2,14 +2,14 @@
 use Rattle.std.proofs.Common.{◌≡◌, ℕ, zero, suc, List, [], ◌∷◌, ◌++◌, Option, None, Some, refl, sym, ◌∙◌, ap, subst, arith, inl, inr, ⊎_elim}
 use Rattle.std.specs.Prelude.{◌<◌, ◌⊎◌, map, option_map, slice_get}
 use Rattle.std.proofs.lemmas.Option.{slice_get-map}
-use Rattle.scp_turn.specs.scp_core.specs.declared.event.Event.{Event as Happening}
-use Rattle.scp_turn.specs.scp_core.specs.History.{Exchange}
-use Rattle.scp_turn.specs.scp_core.specs.Kv.{NodeView}
-use Rattle.scp_live_log.specs.Log.{EntryView}
-use Rattle.scp_live_lines.specs.declared.asked.Asked.TheVariants.{Event}
-use Rattle.scp_live_lines.specs.Says.{Says}
-use Rattle.scp_live_config.specs.Names.{Identity, NoTwo}
-use Rattle.scp_turn.specs.scp_core.specs.Kv.{TheoremGivesLedger}
+use Rattle.scp_stand_node.specs.scp_core.specs.declared.event.Event.{Event as Happening}
+use Rattle.scp_stand_node.specs.scp_core.specs.History.{Exchange}
+use Rattle.scp_stand_node.specs.scp_core.specs.Kv.{NodeView}
+use Rattle.scp_batches.specs.scp_live_log.specs.Log.{EntryView}
+use Rattle.scp_live.specs.scp_live_lines.specs.declared.asked.Asked.TheVariants.{Event}
+use Rattle.scp_live.specs.scp_live_lines.specs.Says.{Says}
+use Rattle.scp_live.specs.scp_live_config.specs.Names.{Identity, NoTwo}
+use Rattle.scp_stand_node.specs.scp_core.specs.Kv.{TheoremGivesLedger}
 use Rattle.scp_live.specs.Episodes.{AreEpisodes, SameEventsSameEpisodes, FurtherEventsGoOn}
 use Rattle.scp_live.specs.Lines.{AreNamedApart, LinesSayOneThing}
 use Rattle.scp_live.specs.Live.{LiveView}

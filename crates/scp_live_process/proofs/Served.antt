@@ -2,14 +2,14 @@
 use Rattle.std.proofs.Common.{◌≡◌, ℕ, List, [], ◌∷◌, ◌++◌, Option, None, Some, refl, sym, ◌∙◌, ap, subst, append_assoc, append-nil, arith, inl, inr}
 use Rattle.std.specs.Prelude.{◌≤◌, ◌<◌, ◌≢◌, ◌⊎◌, length, Result, Err, IsErrOf}
 use Rattle.std.proofs.lemmas.Grind.{flat_map-append}
-use Rattle.scp_types.specs.declared.fault.Fault.{Fault}
-use Rattle.scp_types.specs.declared.fault.Fault.TheVariants.{NoMemory, TooLong, Device}
-use Rattle.scp_device.specs.Device.{Loses, HasEnded, Gains, GainsPart}
-use Rattle.scp_turn.specs.scp_core.specs.History.{Exchange}
-use Rattle.scp_live_log.specs.declared.kept.Kept.{Kept}
-use Rattle.scp_live_log.specs.Disk.{StartsWith, LeavesOnly}
-use Rattle.scp_live_log.specs.Kept.{IsSettled}
-use Rattle.scp_live_log.specs.Log.{EntryView, Marked, batch_of, log_of}
+use Rattle.scp_stand_node.specs.scp_types.specs.declared.fault.Fault.{Fault}
+use Rattle.scp_stand_node.specs.scp_types.specs.declared.fault.Fault.TheVariants.{NoMemory, TooLong, Device}
+use Rattle.scp_stand_node.specs.scp_device.specs.Device.{Loses, HasEnded, Gains, GainsPart}
+use Rattle.scp_stand_node.specs.scp_core.specs.History.{Exchange}
+use Rattle.scp_batches.specs.scp_live_log.specs.declared.kept.Kept.{Kept}
+use Rattle.scp_batches.specs.scp_live_log.specs.Disk.{StartsWith, LeavesOnly}
+use Rattle.scp_batches.specs.scp_live_log.specs.Kept.{IsSettled}
+use Rattle.scp_batches.specs.scp_live_log.specs.Log.{EntryView, Marked, batch_of, log_of}
 use Rattle.scp_batches.specs.Lines.{Gives, IsRead}
 use Rattle.scp_live.specs.Live.{LiveView}
 use Rattle.scp_live_process.specs.Answers.{AreAnswered}

@@ -1,10 +1,10 @@
 -- Where a node stands, with the names of its configuration.
 use Rattle.std.proofs.Common.{◌≡◌, ℕ, List, None, subst}
 use Rattle.std.specs.Prelude.{Result, Ok, Err, OnOk}
-use Rattle.scp_types.specs.declared.fault.Fault.{Fault}
-use Rattle.scp_turn.specs.scp_core.specs.Kv.{NodeView}
+use Rattle.scp_stand_node.specs.scp_types.specs.declared.fault.Fault.{Fault}
+use Rattle.scp_stand_node.specs.scp_core.specs.Kv.{NodeView}
 use Rattle.scp_live.specs.Live.{LiveView}
-use Rattle.scp_stand_slot.specs.declared.names.Names.{Names}
+use Rattle.scp_stand_node.specs.scp_stand_slot.specs.declared.names.Names.{Names}
 use Rattle.scp_stand_node.specs.Stand.{IsStand}
 use Rattle.scp_live_process.specs.Stands.{AreNamesIn, TellsStand}
 use Rattle.scp_live_process.specs.inside.Adding.{AddsText}

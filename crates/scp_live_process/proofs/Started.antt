@@ -3,19 +3,19 @@ use Rattle.std.proofs.Common.{◌≡◌, ℕ, Bool, true, false, List, [], ◌�
 use Rattle.std.specs.Prelude.{◌<◌, ◌⊎◌, ◌-◌, ◌&&◌, length, map, nat_lt, slice_get, if◌then◌else◌, Err, IsErrOf}
 use Rattle.std.proofs.lemmas.List.{map-append}
 use Rattle.std.proofs.lemmas.Bool.Decides.{nat_tests}
-use Rattle.scp_types.specs.declared.fault.Fault.{Fault}
-use Rattle.scp_types.specs.declared.fault.Fault.TheVariants.{NoMemory, JournalFull, BadConfig}
-use Rattle.scp_turn.specs.scp_core.specs.declared.event.Event.{Event as Happening}
-use Rattle.scp_turn.specs.scp_core.specs.History.{Exchange}
-use Rattle.scp_turn.specs.scp_core.specs.Node.{LinkView, accepts_at, accepts_of, room_at, room_of}
-use Rattle.scp_turn.specs.scp_core.specs.Kv.{NodeView}
-use Rattle.scp_turn.specs.Turn.{links_of}
-use Rattle.scp_live_log.specs.declared.kept.Kept.{Kept}
-use Rattle.scp_live_log.specs.Kept.{IsSettled, IsRecovered}
-use Rattle.scp_live_log.specs.Log.{EntryView, Marked, marked_from, batch_of, entries_of}
-use Rattle.scp_live_lines.specs.declared.asked.Asked.TheVariants.{Event}
-use Rattle.scp_live_lines.specs.Says.{Says}
-use Rattle.scp_device.specs.Device.{Gains}
+use Rattle.scp_stand_node.specs.scp_types.specs.declared.fault.Fault.{Fault}
+use Rattle.scp_stand_node.specs.scp_types.specs.declared.fault.Fault.TheVariants.{NoMemory, JournalFull, BadConfig}
+use Rattle.scp_stand_node.specs.scp_core.specs.declared.event.Event.{Event as Happening}
+use Rattle.scp_stand_node.specs.scp_core.specs.History.{Exchange}
+use Rattle.scp_stand_node.specs.scp_core.specs.Node.{LinkView, accepts_at, accepts_of, room_at, room_of}
+use Rattle.scp_stand_node.specs.scp_core.specs.Kv.{NodeView}
+use Rattle.scp_stand_node.specs.scp_turn.specs.Turn.{links_of}
+use Rattle.scp_batches.specs.scp_live_log.specs.declared.kept.Kept.{Kept}
+use Rattle.scp_batches.specs.scp_live_log.specs.Kept.{IsSettled, IsRecovered}
+use Rattle.scp_batches.specs.scp_live_log.specs.Log.{EntryView, Marked, marked_from, batch_of, entries_of}
+use Rattle.scp_live.specs.scp_live_lines.specs.declared.asked.Asked.TheVariants.{Event}
+use Rattle.scp_live.specs.scp_live_lines.specs.Says.{Says}
+use Rattle.scp_stand_node.specs.scp_device.specs.Device.{Gains}
 use Rattle.scp_live.specs.Live.{LiveView}
 use Rattle.scp_live_process.specs.Answers.{IsPlayed}
 use Rattle.scp_live.specs.Replays.{AreReplayed}

@@ -1,12 +1,12 @@
 -- A node that ran, and whose steps were written.
 use Rattle.std.proofs.Common.{◌≡◌, ◌<◌, ℕ, false, List, [], Option, sym, ap, subst, inl, inr, ⊎_elim}
 use Rattle.std.specs.Prelude.{◌⊎◌}
-use Rattle.scp_types.specs.declared.fault.Fault.{Fault}
-use Rattle.scp_types.specs.declared.fault.Fault.TheVariants.{NoMemory, Device}
-use Rattle.scp_live_log.specs.declared.kept.LogFault.TheVariants.{Failed}
-use Rattle.scp_turn.specs.Kv.{Watched}
+use Rattle.scp_stand_node.specs.scp_types.specs.declared.fault.Fault.{Fault}
+use Rattle.scp_stand_node.specs.scp_types.specs.declared.fault.Fault.TheVariants.{NoMemory, Device}
+use Rattle.scp_batches.specs.scp_live_log.specs.declared.kept.LogFault.TheVariants.{Failed}
+use Rattle.scp_stand_node.specs.scp_turn.specs.Kv.{Watched}
 use Rattle.scp_trace_text.specs.Watching.{TraceView, noting, TracedIsWhatHappened}
-use Rattle.scp_live_config.specs.declared.settings.Settings.{Settings}
+use Rattle.scp_live.specs.scp_live_config.specs.declared.settings.Settings.{Settings}
 use Rattle.scp_live.specs.Beginning.{Configures}
 use Rattle.scp_live_process.specs.Stands.{AreNamesIn}
 use Rattle.scp_live_process.specs.Starting.{RunsAs, TracesRun, IsTracedRun}

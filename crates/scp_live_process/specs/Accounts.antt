@@ -1,15 +1,15 @@
 -- The account of a node that runs as a process, made from its log (this project's profile).
 use Rattle.std.specs.Prelude.{ℕ, ◌≡◌, List, [], ◌∷◌, ◌++◌, Option}
-use Rattle.scp_turn.specs.scp_core.specs.History.{Exchange}
-use Rattle.scp_turn.specs.scp_core.specs.Kv.{HoldsLedger, HoldsHeadline}
-use Rattle.scp_device.specs.Device.{Gains}
-use Rattle.scp_turn.specs.Kv.{Watched}
-use Rattle.scp_live_log.specs.declared.kept.Kept.{Kept}
-use Rattle.scp_live_log.specs.Kept.{IsAllAndMore}
-use Rattle.scp_live_log.specs.Log.{EntryView, Marked, AreEntries, entries_of, log_of}
-use Rattle.scp_live_config.specs.declared.settings.Settings.{Settings}
-use Rattle.scp_account.specs.scp_facts.specs.declared.happening.Kept.{Kept as Happened}
-use Rattle.scp_account.specs.scp_facts.specs.Kept.{Keeps}
+use Rattle.scp_stand_node.specs.scp_core.specs.History.{Exchange}
+use Rattle.scp_stand_node.specs.scp_core.specs.Kv.{HoldsLedger, HoldsHeadline}
+use Rattle.scp_stand_node.specs.scp_device.specs.Device.{Gains}
+use Rattle.scp_stand_node.specs.scp_turn.specs.Kv.{Watched}
+use Rattle.scp_batches.specs.scp_live_log.specs.declared.kept.Kept.{Kept}
+use Rattle.scp_batches.specs.scp_live_log.specs.Kept.{IsAllAndMore}
+use Rattle.scp_batches.specs.scp_live_log.specs.Log.{EntryView, Marked, AreEntries, entries_of, log_of}
+use Rattle.scp_live.specs.scp_live_config.specs.declared.settings.Settings.{Settings}
+use Rattle.scp_trace_text.specs.scp_facts.specs.declared.happening.Kept.{Kept as Happened}
+use Rattle.scp_trace_text.specs.scp_facts.specs.Kept.{Keeps}
 use Rattle.scp_account.specs.scp_report.specs.Node.{reports_of}
 use Rattle.scp_account.specs.declared.node.Mode.TheVariants as ways
 use Rattle.scp_account.specs.Account.{account_text}

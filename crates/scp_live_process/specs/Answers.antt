@@ -1,18 +1,18 @@
 -- The answers to the lines of a host, and what is kept of these lines (this project's profile).
 use Rattle.std.specs.Prelude.{ℕ, ◌≡◌, ◌≤◌, ◌<◌, ◌+◌, ◌-◌, ◌^◌, ◌⊎◌, List, [], ◌∷◌, ◌++◌, length, min, codes}
 use Rattle.std.specs.Fmt.{decimal}
-use Rattle.scp_turn.specs.scp_core.specs.declared.event.Event.{Event as Happening}
-use Rattle.scp_turn.specs.scp_core.specs.History.{Exchange}
-use Rattle.scp_live_log.specs.Log.{EntryView}
+use Rattle.scp_stand_node.specs.scp_core.specs.declared.event.Event.{Event as Happening}
+use Rattle.scp_stand_node.specs.scp_core.specs.History.{Exchange}
+use Rattle.scp_batches.specs.scp_live_log.specs.Log.{EntryView}
 use Rattle.scp_batches.specs.declared.line.TheConstants.{LINE_LIMIT}
-use Rattle.scp_live_lines.specs.declared.asked.Asked.{Asked}
-use Rattle.scp_live_lines.specs.declared.asked.Asked.TheVariants.{Event, Again, State, Report, Stand, Applied, Nothing}
-use Rattle.scp_script.specs.scp_device.specs.Expected.{words_of}
-use Rattle.scp_script.specs.scp_device.specs.declared.bad.BadWord.{BadWord}
-use Rattle.scp_live_lines.specs.Says.{Says}
-use Rattle.scp_live_lines.specs.Bad.{IsFirstBad}
-use Rattle.scp_live_lines.specs.Names.{name_at}
-use Rattle.scp_live_lines.specs.Replies.{ok_line}
+use Rattle.scp_live.specs.scp_live_lines.specs.declared.asked.Asked.{Asked}
+use Rattle.scp_live.specs.scp_live_lines.specs.declared.asked.Asked.TheVariants.{Event, Again, State, Report, Stand, Applied, Nothing}
+use Rattle.scp_stand_node.specs.scp_device.specs.Expected.{words_of}
+use Rattle.scp_stand_node.specs.scp_device.specs.declared.bad.BadWord.{BadWord}
+use Rattle.scp_live.specs.scp_live_lines.specs.Says.{Says}
+use Rattle.scp_live.specs.scp_live_lines.specs.Bad.{IsFirstBad}
+use Rattle.scp_live.specs.scp_live_lines.specs.Names.{name_at}
+use Rattle.scp_live.specs.scp_live_lines.specs.Replies.{ok_line}
 use Rattle.scp_live.specs.Live.{LiveView, IsTold}
 use Rattle.scp_live.specs.scp_again.specs.Again.{again_of}
 use Rattle.scp_live.specs.Again.{SaysAgain}

@@ -1,11 +1,11 @@
 -- How a node closes at its start the connections that were open (this project's profile).
 use Rattle.std.specs.Prelude.{ℕ, zero, suc, ◌≡◌, ◌<◌, ◌+◌, ◌⊎◌, Bool, true, false, List, [], ◌∷◌, ◌++◌, Option, Some, None, map, take, drop, codes, slice_get, if◌then◌else◌}
-use Rattle.scp_turn.specs.scp_core.specs.History.{Exchange}
-use Rattle.scp_turn.specs.scp_core.specs.Node.{LinkView, accepts_at, room_at}
-use Rattle.scp_turn.specs.scp_core.specs.Kv.{NodeView}
-use Rattle.scp_turn.specs.Turn.{links_of}
-use Rattle.scp_live_log.specs.Log.{EntryView}
-use Rattle.scp_live_lines.specs.Names.{name_at}
+use Rattle.scp_stand_node.specs.scp_core.specs.History.{Exchange}
+use Rattle.scp_stand_node.specs.scp_core.specs.Node.{LinkView, accepts_at, room_at}
+use Rattle.scp_stand_node.specs.scp_core.specs.Kv.{NodeView}
+use Rattle.scp_stand_node.specs.scp_turn.specs.Turn.{links_of}
+use Rattle.scp_batches.specs.scp_live_log.specs.Log.{EntryView}
+use Rattle.scp_live.specs.scp_live_lines.specs.Names.{name_at}
 use Rattle.scp_live.specs.Live.{LiveView}
 use Rattle.scp_live.specs.Replays.{AreReplayed, SaysNoEvent}
 

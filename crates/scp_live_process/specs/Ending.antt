@@ -1,22 +1,22 @@
 -- How a node that runs as a process ends with another status than 0: what it did, why it ended, and its last line (this project's
 -- profile).
 use Rattle.std.specs.Prelude.{ℕ, ◌≡◌, ◌⊎◌, ◌↔◌, ◌<◌, true, List, ◌++◌, Option, Err}
-use Rattle.scp_types.specs.declared.fault.Fault.{Fault}
-use Rattle.scp_types.specs.declared.fault.Fault.TheVariants.{NoMemory, TooLong, AlreadyOpen, BadConfig, JournalFull, Device}
-use Rattle.scp_device.specs.Device.{Fails, Gains, GainsPart}
-use Rattle.scp_turn.specs.scp_core.specs.Config.{IsConfigOfMany}
-use Rattle.scp_turn.specs.scp_core.specs.History.{Exchange}
-use Rattle.scp_turn.specs.scp_core.specs.Kv.{LedgerTheorem, HoldsLedger, HoldsHeadline}
-use Rattle.scp_turn.specs.Turn.{links_of}
-use Rattle.scp_live.specs.scp_turn.specs.Episode.{finds_full}
-use Rattle.scp_live_log.specs.declared.kept.Kept.{Kept}
-use Rattle.scp_live_log.specs.declared.kept.LogFault.{LogFault}
-use Rattle.scp_live_log.specs.declared.kept.LogFault.TheVariants.{Another, Damaged, Failed}
-use Rattle.scp_live_log.specs.Disk.{StartsWith, Only}
-use Rattle.scp_live_log.specs.Kept.{IsAnother, IsDamaged}
-use Rattle.scp_live_log.specs.Log.{EntryView, Marked, AreEntries, entries_of, log_of}
-use Rattle.scp_live_config.specs.declared.settings.Settings.{Settings}
-use Rattle.scp_live_config.specs.declared.fault.ConfigFault.{ConfigFault}
+use Rattle.scp_stand_node.specs.scp_types.specs.declared.fault.Fault.{Fault}
+use Rattle.scp_stand_node.specs.scp_types.specs.declared.fault.Fault.TheVariants.{NoMemory, TooLong, AlreadyOpen, BadConfig, JournalFull, Device}
+use Rattle.scp_stand_node.specs.scp_device.specs.Device.{Fails, Gains, GainsPart}
+use Rattle.scp_stand_node.specs.scp_core.specs.Config.{IsConfigOfMany}
+use Rattle.scp_stand_node.specs.scp_core.specs.History.{Exchange}
+use Rattle.scp_stand_node.specs.scp_core.specs.Kv.{LedgerTheorem, HoldsLedger, HoldsHeadline}
+use Rattle.scp_stand_node.specs.scp_turn.specs.Turn.{links_of}
+use Rattle.scp_stand_node.specs.scp_turn.specs.Episode.{finds_full}
+use Rattle.scp_batches.specs.scp_live_log.specs.declared.kept.Kept.{Kept}
+use Rattle.scp_batches.specs.scp_live_log.specs.declared.kept.LogFault.{LogFault}
+use Rattle.scp_batches.specs.scp_live_log.specs.declared.kept.LogFault.TheVariants.{Another, Damaged, Failed}
+use Rattle.scp_batches.specs.scp_live_log.specs.Disk.{StartsWith, Only}
+use Rattle.scp_batches.specs.scp_live_log.specs.Kept.{IsAnother, IsDamaged}
+use Rattle.scp_batches.specs.scp_live_log.specs.Log.{EntryView, Marked, AreEntries, entries_of, log_of}
+use Rattle.scp_live.specs.scp_live_config.specs.declared.settings.Settings.{Settings}
+use Rattle.scp_live.specs.scp_live_config.specs.declared.fault.ConfigFault.{ConfigFault}
 use Rattle.scp_live.specs.Live.{LiveView}
 use Rattle.scp_live.specs.Beginning.{Configures, IsNew, config_in, digest_of, header_of}
 use Rattle.scp_live.specs.Replays.{AreReplayed, Then, IsUnfitAt}

@@ -1,11 +1,11 @@
 -- What is kept is what was played, and it determines the node.
 use Rattle.std.specs.Prelude.{ℕ, ◌≡◌, false, List, ◌++◌}
-use Rattle.scp_turn.specs.scp_core.specs.History.{Exchange}
-use Rattle.scp_live_log.specs.Log.{EntryView}
-use Rattle.scp_turn.specs.scp_core.specs.Kv.{HoldsLedger}
-use Rattle.scp_turn.specs.scp_core.specs.Same.{ShowSameNode}
+use Rattle.scp_stand_node.specs.scp_core.specs.History.{Exchange}
+use Rattle.scp_batches.specs.scp_live_log.specs.Log.{EntryView}
+use Rattle.scp_stand_node.specs.scp_core.specs.Kv.{HoldsLedger}
+use Rattle.scp_stand_node.specs.scp_core.specs.Same.{ShowSameNode}
 use Rattle.scp_live.specs.scp_again.specs.Laws.{NeverGoesBack}
-use Rattle.scp_live_config.specs.declared.settings.Settings.{Settings}
+use Rattle.scp_live.specs.scp_live_config.specs.declared.settings.Settings.{Settings}
 use Rattle.scp_live.specs.Live.{LiveView}
 use Rattle.scp_live_process.specs.Answers.{AreAnswered}
 use Rattle.scp_live.specs.Replays.{AreReplayed}

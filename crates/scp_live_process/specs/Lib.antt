@@ -1,3 +1,4 @@
+pub use Rattle.scp_batches.specs.scp_live_log
 pub mod Stands
 pub mod Answers
 pub mod Serving

@@ -1,13 +1,13 @@
 -- What was served of an input (this project's profile).
 use Rattle.std.specs.Prelude.{ℕ, ◌≡◌, ◌≢◌, List, [], ◌++◌, Option, Some, Result, IsErrOf, flat_map}
-use Rattle.scp_types.specs.declared.fault.Fault.{Fault}
-use Rattle.scp_types.specs.declared.fault.Fault.TheVariants.{NoMemory, Device}
-use Rattle.scp_device.specs.Device.{Loses, HasEnded, Gains, GainsPart}
-use Rattle.scp_turn.specs.scp_core.specs.History.{Exchange}
-use Rattle.scp_live_log.specs.declared.kept.Kept.{Kept}
-use Rattle.scp_live_log.specs.Disk.{StartsWith}
-use Rattle.scp_live_log.specs.Kept.{IsSettled}
-use Rattle.scp_live_log.specs.Log.{EntryView, Marked, batch_of, log_of}
+use Rattle.scp_stand_node.specs.scp_types.specs.declared.fault.Fault.{Fault}
+use Rattle.scp_stand_node.specs.scp_types.specs.declared.fault.Fault.TheVariants.{NoMemory, Device}
+use Rattle.scp_stand_node.specs.scp_device.specs.Device.{Loses, HasEnded, Gains, GainsPart}
+use Rattle.scp_stand_node.specs.scp_core.specs.History.{Exchange}
+use Rattle.scp_batches.specs.scp_live_log.specs.declared.kept.Kept.{Kept}
+use Rattle.scp_batches.specs.scp_live_log.specs.Disk.{StartsWith}
+use Rattle.scp_batches.specs.scp_live_log.specs.Kept.{IsSettled}
+use Rattle.scp_batches.specs.scp_live_log.specs.Log.{EntryView, Marked, batch_of, log_of}
 use Rattle.scp_batches.specs.Lines.{Gives}
 use Rattle.scp_live.specs.Live.{LiveView}
 use Rattle.scp_live_process.specs.Answers.{AreAnswered}

@@ -1,10 +1,10 @@
 -- The status of a node that runs as a process, with nodes shown by the names of its configuration (this project's profile).
 use Rattle.std.specs.Prelude.{ℕ, List, [], None, map}
-use Rattle.scp_live_config.specs.Names.{Identity}
+use Rattle.scp_live.specs.scp_live_config.specs.Names.{Identity}
 use Rattle.scp_live.specs.Live.{LiveView}
-use Rattle.scp_stand_slot.specs.NodeNames.{Naming}
-use Rattle.scp_stand_slot.specs.declared.names.Names.{Names}
-use Rattle.scp_stand_slot.specs.Names.{AreNamesOf}
+use Rattle.scp_stand_node.specs.scp_stand_slot.specs.NodeNames.{Naming}
+use Rattle.scp_stand_node.specs.scp_stand_slot.specs.declared.names.Names.{Names}
+use Rattle.scp_stand_node.specs.scp_stand_slot.specs.Names.{AreNamesOf}
 use Rattle.scp_stand_node.specs.Stand.{IsStand}
 
 -- The name that a configuration gives a node.

@@ -1,17 +1,17 @@
 -- How a node starts as a process (this project's profile).
 use Rattle.std.specs.Prelude.{ℕ, ◌≡◌, List, ◌++◌, length, codes, Option}
 use Rattle.std.specs.Fmt.{decimal}
-use Rattle.scp_turn.specs.scp_core.specs.History.{Exchange}
-use Rattle.scp_turn.specs.scp_core.specs.Kv.{LedgerTheorem, HoldsLedger, HoldsHeadline}
-use Rattle.scp_device.specs.Device.{Gains}
-use Rattle.scp_live_log.specs.declared.kept.Kept.{Kept}
-use Rattle.scp_live_log.specs.Kept.{IsRecovered, IsAllAndMore}
-use Rattle.scp_live_log.specs.Log.{EntryView, Marked, AreEntries, entries_of, log_of}
-use Rattle.scp_live_config.specs.declared.settings.Settings.{Settings}
-use Rattle.scp_live_lines.specs.Replies.{ok_line}
+use Rattle.scp_stand_node.specs.scp_core.specs.History.{Exchange}
+use Rattle.scp_stand_node.specs.scp_core.specs.Kv.{LedgerTheorem, HoldsLedger, HoldsHeadline}
+use Rattle.scp_stand_node.specs.scp_device.specs.Device.{Gains}
+use Rattle.scp_batches.specs.scp_live_log.specs.declared.kept.Kept.{Kept}
+use Rattle.scp_batches.specs.scp_live_log.specs.Kept.{IsRecovered, IsAllAndMore}
+use Rattle.scp_batches.specs.scp_live_log.specs.Log.{EntryView, Marked, AreEntries, entries_of, log_of}
+use Rattle.scp_live.specs.scp_live_config.specs.declared.settings.Settings.{Settings}
+use Rattle.scp_live.specs.scp_live_lines.specs.Replies.{ok_line}
 use Rattle.scp_live.specs.Live.{LiveView}
 use Rattle.scp_live.specs.Questions.{state_of}
-use Rattle.scp_stand_slot.specs.declared.names.Names.{Names}
+use Rattle.scp_stand_node.specs.scp_stand_slot.specs.declared.names.Names.{Names}
 use Rattle.scp_trace_text.specs.Tracing.{IsTraced}
 use Rattle.scp_live.specs.Beginning.{Configures, digest_of, header_of, IsNew}
 use Rattle.scp_live.specs.Replays.{AreReplayed, Then}

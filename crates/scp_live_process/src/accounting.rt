@@ -1,17 +1,19 @@
 //! The account of a node, made from its log.
 ghost use Rattle.std.specs.Prelude.{◌≡◌, IfOk, OnOk, string_bytes};
-ghost use Rattle.scp_turn.specs.Kv.{Goes};
-ghost use Rattle.scp_live_log.specs.Log.{IsLine};
+ghost use Rattle.scp_stand_node.specs.scp_turn.specs.Kv.{Goes};
+ghost use Rattle.scp_batches.specs.scp_live_log.specs.Log.{IsLine};
 ghost use Rattle.scp_live_process.specs.Accounts.{IsAccountOf, AccountsFor, IsAccounted};
 ghost use Rattle.scp_live.specs.Living.{IsLive};
 
 use scp_account::{KeepingWatch, Mode, account, reports_of, what_is_kept_is_what_happened};
-use scp_device::{ReportOut, write_text};
+use scp_batches::below::live_log::{EventLog, Kept, LogFault};
+use scp_live::below::live_config::Settings;
 use scp_live::{Live, begun, fail, header, refuse, replay, settings_of};
-use scp_live_config::Settings;
-use scp_live_log::{EventLog, Kept, LogFault};
-use scp_turn::{KvDriver, each_node_holds_its_headline, each_node_holds_its_ledger};
-use scp_types::Fault;
+use scp_stand_node::below::device::{ReportOut, write_text};
+use scp_stand_node::below::turn::{
+    KvDriver, each_node_holds_its_headline, each_node_holds_its_ledger,
+};
+use scp_stand_node::below::types::Fault;
 use std::alloc::Global;
 use std::slice;
 

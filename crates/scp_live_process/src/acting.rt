@@ -1,13 +1,13 @@
 //! An event of a host.
 ghost use Rattle.std.specs.Prelude.{◌≡◌, ◌⊎◌, ◌↔◌, false, true, IfOk, IfErr, OnOk, IsErrOf, string_bytes};
-ghost use Rattle.scp_turn.specs.Kv.{Goes, Watched};
-ghost use Rattle.scp_turn.specs.Watch.{notes};
-ghost use Rattle.scp_live.specs.scp_turn.specs.Episode.{IsOfHost, finds_full};
+ghost use Rattle.scp_stand_node.specs.scp_turn.specs.Kv.{Goes, Watched};
+ghost use Rattle.scp_stand_node.specs.scp_turn.specs.Watch.{notes};
+ghost use Rattle.scp_stand_node.specs.scp_turn.specs.Episode.{IsOfHost, finds_full};
 ghost use Rattle.scp_live.specs.Live.{IsTold};
 
 use scp_live::Live;
-use scp_turn::{Event, KvDriver, Watch};
-use scp_types::{Fault, Hash};
+use scp_stand_node::below::turn::{Event, KvDriver, Watch};
+use scp_stand_node::below::types::{Fault, Hash};
 
 /// A full journal if that is the fault, otherwise out of memory.
 fn full_or_memory(fault: Fault) -> Fault

@@ -1,10 +1,10 @@
 //! The answers to the lines of a host.
 ghost use Rattle.std.specs.Prelude.{◌≡◌, ◌⊎◌, ◌↔◌, true, IfOk, IfErr, OnOk, IsErrOf};
-ghost use Rattle.scp_live_log.specs.Log.{IsLine};
-ghost use Rattle.scp_turn.specs.Kv.{Goes, Watched};
-ghost use Rattle.scp_turn.specs.Watch.{notes};
-ghost use Rattle.scp_live.specs.scp_turn.specs.Episode.{finds_full};
-ghost use Rattle.scp_live_lines.specs.Says.{Says};
+ghost use Rattle.scp_batches.specs.scp_live_log.specs.Log.{IsLine};
+ghost use Rattle.scp_stand_node.specs.scp_turn.specs.Kv.{Goes, Watched};
+ghost use Rattle.scp_stand_node.specs.scp_turn.specs.Watch.{notes};
+ghost use Rattle.scp_stand_node.specs.scp_turn.specs.Episode.{finds_full};
+ghost use Rattle.scp_live.specs.scp_live_lines.specs.Says.{Says};
 ghost use Rattle.scp_live_process.specs.Answers.{IsDone, IsAnswered, AreAnswered, next_number};
 ghost use Rattle.scp_live_process.specs.inside.Adding.{Adds};
 ghost use Rattle.scp_live_process.specs.inside.Batches.{number_behind};
@@ -13,9 +13,9 @@ ghost use Rattle.scp_live.specs.Living.{IsLive};
 use crate::batch::Batch;
 use scp_batches::Line;
 use scp_live::Live;
-use scp_live_lines::{Asked, WordFault, read_line};
-use scp_turn::{KvDriver, Watch};
-use scp_types::Fault;
+use scp_live::below::live_lines::{Asked, WordFault, read_line};
+use scp_stand_node::below::turn::{KvDriver, Watch};
+use scp_stand_node::below::types::Fault;
 
 /// What was expected in place of a line that is too long.
 const SHORTER: &str = "a line of at most 262144 bytes";

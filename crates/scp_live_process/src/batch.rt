@@ -1,11 +1,11 @@
 //! The answers to the lines of a batch, and what is kept of the lines.
 ghost use Rattle.std.specs.Prelude.{◌≡◌, ◌⊎◌, ◌↔◌, ◌++◌, ◌∷◌, [], true, IfErr, OnOk, IsErrOf, IsOkUnless, All, string_bytes};
 ghost use Rattle.hex.specs.Hex.{IsBytes};
-ghost use Rattle.scp_live_log.specs.Log.{IsEntry, IsLine};
-ghost use Rattle.scp_turn.specs.Kv.{Goes, Watched};
-ghost use Rattle.scp_turn.specs.Watch.{notes};
-ghost use Rattle.scp_live.specs.scp_turn.specs.Episode.{IsOfHost, finds_full};
-ghost use Rattle.scp_live_lines.specs.Replies.{ok_line};
+ghost use Rattle.scp_batches.specs.scp_live_log.specs.Log.{IsEntry, IsLine};
+ghost use Rattle.scp_stand_node.specs.scp_turn.specs.Kv.{Goes, Watched};
+ghost use Rattle.scp_stand_node.specs.scp_turn.specs.Watch.{notes};
+ghost use Rattle.scp_stand_node.specs.scp_turn.specs.Episode.{IsOfHost, finds_full};
+ghost use Rattle.scp_live.specs.scp_live_lines.specs.Replies.{ok_line};
 ghost use Rattle.scp_live_process.specs.Answers.{IsPlayed, bad_line, Replies};
 ghost use Rattle.scp_live_process.specs.inside.Adding.{Adds, TellsMore, Asks};
 ghost use Rattle.scp_live.specs.Living.{IsLive};
@@ -13,11 +13,11 @@ ghost use Rattle.scp_live.specs.Living.{IsLive};
 use crate::acting::act;
 use crate::stand::tell_stand;
 use crate::telling::write_bad;
+use scp_batches::below::live_log::Entry;
 use scp_live::Live;
-use scp_live_lines::{Asked, write_ok};
-use scp_live_log::Entry;
-use scp_turn::{Event, KvDriver, Watch};
-use scp_types::{Fault, Hash};
+use scp_live::below::live_lines::{Asked, write_ok};
+use scp_stand_node::below::turn::{Event, KvDriver, Watch};
+use scp_stand_node::below::types::{Fault, Hash};
 use std::alloc::Global;
 use std::marker::Model;
 
@@ -31,7 +31,7 @@ pub struct Batch {
 
 impl Model for Batch {
     ghost use Rattle.std.specs.Prelude.{All, string_bytes};
-    ghost use Rattle.scp_live_log.specs.Log.{IsEntry};
+    ghost use Rattle.scp_batches.specs.scp_live_log.specs.Log.{IsEntry};
     ghost use Rattle.scp_live_process.specs.inside.Adding.{BatchView};
 
     ghost Value = { BatchView };

@@ -4,7 +4,7 @@ ghost use Rattle.scp_live_process.specs.Laws.{KeptIsPlayed, LogsMakeOneNode, Log
 use scp_live::{
     a_line_says_one_thing, further_events_go_on, the_same_events_give_the_same_episodes,
 };
-use scp_turn::{KvDriver, each_node_holds_its_ledger};
+use scp_stand_node::below::turn::{KvDriver, each_node_holds_its_ledger};
 
 /// What the node did while it answered lines is a replay of what is kept of these lines.
 pub fn what_is_kept_is_what_was_played()

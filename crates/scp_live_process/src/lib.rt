@@ -26,6 +26,7 @@ mod accounting;
 mod acting;
 mod answer;
 mod batch;
+pub mod below;
 mod laws;
 mod process;
 mod serving;

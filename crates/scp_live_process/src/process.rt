@@ -1,8 +1,8 @@
 //! A node with a configuration starts, and serves its host until the input ends.
 ghost use Rattle.std.specs.Prelude.{◌≡◌, ◌≢◌, IfOk, IfErr, OnOk, string_bytes};
-ghost use Rattle.scp_turn.specs.Kv.{Goes, Watched};
-ghost use Rattle.scp_turn.specs.Watch.{notes};
-ghost use Rattle.scp_live_log.specs.Log.{IsLine};
+ghost use Rattle.scp_stand_node.specs.scp_turn.specs.Kv.{Goes, Watched};
+ghost use Rattle.scp_stand_node.specs.scp_turn.specs.Watch.{notes};
+ghost use Rattle.scp_batches.specs.scp_live_log.specs.Log.{IsLine};
 ghost use Rattle.scp_live.specs.Beginning as begin;
 ghost use Rattle.scp_live.specs.Living.{IsLive};
 ghost use Rattle.scp_live_process.specs.Ending.{streams, StopsBy, Stops, EndsUnserved};
@@ -10,15 +10,15 @@ ghost use Rattle.scp_live_process.specs.Starting.{greeting, HasRun, RunsAs, IsRu
 
 use crate::serving::serve;
 use crate::starting::restart;
-use scp_device::{ReportOut, ScriptIn, write_text};
+use scp_batches::below::live_log::{EventLog, Kept, LogFault};
+use scp_live::below::live_config::Settings;
+use scp_live::below::live_lines::write_ok;
 use scp_live::{Live, begun, fail, header, refuse, settings_of};
-use scp_live_config::Settings;
-use scp_live_lines::write_ok;
-use scp_live_log::{EventLog, Kept, LogFault};
-use scp_turn::{
+use scp_stand_node::below::device::{ReportOut, ScriptIn, write_text};
+use scp_stand_node::below::turn::{
     KvDriver, NoWatch, Watch, each_node_holds_its_headline, each_node_holds_its_ledger,
 };
-use scp_types::Fault;
+use scp_stand_node::below::types::Fault;
 use std::alloc::{AllocError, Global};
 
 /// What is written before any line is read.

@@ -1,21 +1,21 @@
 //! A node serves its host.
 ghost use Rattle.std.specs.Prelude.{◌≡◌, ◌≢◌, ◌⊎◌, ◌↔◌, true, IfOk, IfErr, OnOk, OnErr, IsErrOf};
-ghost use Rattle.scp_device.specs.Device.{Gains, GainsPart, Fails};
-ghost use Rattle.scp_turn.specs.Kv.{Goes, Watched};
-ghost use Rattle.scp_turn.specs.Watch.{notes};
-ghost use Rattle.scp_live.specs.scp_turn.specs.Episode.{finds_full};
+ghost use Rattle.scp_stand_node.specs.scp_device.specs.Device.{Gains, GainsPart, Fails};
+ghost use Rattle.scp_stand_node.specs.scp_turn.specs.Kv.{Goes, Watched};
+ghost use Rattle.scp_stand_node.specs.scp_turn.specs.Watch.{notes};
+ghost use Rattle.scp_stand_node.specs.scp_turn.specs.Episode.{finds_full};
 ghost use Rattle.scp_live_process.specs.Serving.{HasServed, HasServedPart};
 ghost use Rattle.scp_live_process.specs.inside.Batches.{number_behind, IsBatch, StaysDurable};
 ghost use Rattle.scp_live.specs.Living.{IsLive};
 
 use crate::answer::answer_all;
 use crate::batch::Batch;
+use scp_batches::below::live_log::{EventLog, Kept};
 use scp_batches::{Line, Lines};
-use scp_device::{ReportOut, ScriptIn};
 use scp_live::Live;
-use scp_live_log::{EventLog, Kept};
-use scp_turn::{KvDriver, Watch};
-use scp_types::Fault;
+use scp_stand_node::below::device::{ReportOut, ScriptIn};
+use scp_stand_node::below::turn::{KvDriver, Watch};
+use scp_stand_node::below::types::Fault;
 use std::alloc::Global;
 
 /// Answers the lines that one read brought, keeps their events, and writes the answers. Returns the number of the next line.

@@ -6,11 +6,11 @@ ghost use Rattle.scp_live.specs.Living.{IsLive};
 ghost use Rattle.scp_live_process.specs.inside.Adding.{AddsText};
 
 use scp_live::Live;
-use scp_live_config::Named;
+use scp_live::below::live_config::Named;
+use scp_stand_node::below::stand_slot::{Names, NodeName};
+use scp_stand_node::below::turn::{Node, each_node_holds_its_ledger};
+use scp_stand_node::below::types::Fault;
 use scp_stand_node::{Seen, write_stand};
-use scp_stand_slot::{Names, NodeName};
-use scp_turn::{Node, each_node_holds_its_ledger};
-use scp_types::Fault;
 use std::alloc::{AllocError, Global};
 
 /// The name that a configuration gives a node.

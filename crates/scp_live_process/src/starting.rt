@@ -1,16 +1,16 @@
 //! How a node starts with a log.
 ghost use Rattle.std.specs.Prelude.{◌≡◌, ◌⊎◌, ◌↔◌, ◌<◌, ◌+◌, ◌++◌, ◌∷◌, [], ℕ, List, true, false, take, drop, IfOk, IfErr, IfSome, IfNone, OnOk, IsErrOf, codes, if◌then◌else◌};
 ghost use Rattle.std.specs.Bool.{OnFalse, OnTrue};
-ghost use Rattle.scp_device.specs.Device.{Fails};
-ghost use Rattle.scp_live_lines.specs.declared.asked.Asked.TheVariants as asked;
-ghost use Rattle.scp_live_lines.specs.Says.{Says};
-ghost use Rattle.scp_live.specs.scp_turn.specs.Episode.{IsOfHost, finds_full};
-ghost use Rattle.scp_turn.specs.scp_core.specs.Node.{accepts_at, room_at};
-ghost use Rattle.scp_turn.specs.Turn.{links_of};
-ghost use Rattle.scp_turn.specs.Kv.{Goes, Watched};
-ghost use Rattle.scp_turn.specs.Watch.{notes};
-ghost use Rattle.scp_live_log.specs.Kept.{IsSettled};
-ghost use Rattle.scp_live_log.specs.Log.{IsLine, Marked, batch_of};
+ghost use Rattle.scp_stand_node.specs.scp_device.specs.Device.{Fails};
+ghost use Rattle.scp_live.specs.scp_live_lines.specs.declared.asked.Asked.TheVariants as asked;
+ghost use Rattle.scp_live.specs.scp_live_lines.specs.Says.{Says};
+ghost use Rattle.scp_stand_node.specs.scp_turn.specs.Episode.{IsOfHost, finds_full};
+ghost use Rattle.scp_stand_node.specs.scp_core.specs.Node.{accepts_at, room_at};
+ghost use Rattle.scp_stand_node.specs.scp_turn.specs.Turn.{links_of};
+ghost use Rattle.scp_stand_node.specs.scp_turn.specs.Kv.{Goes, Watched};
+ghost use Rattle.scp_stand_node.specs.scp_turn.specs.Watch.{notes};
+ghost use Rattle.scp_batches.specs.scp_live_log.specs.Kept.{IsSettled};
+ghost use Rattle.scp_batches.specs.scp_live_log.specs.Log.{IsLine, Marked, batch_of};
 ghost use Rattle.scp_live_process.specs.Closing as shut;
 ghost use Rattle.scp_live_process.specs.Ending.{IsStartFault, StaysKept};
 ghost use Rattle.scp_live_process.specs.Starting.{IsRestarted};
@@ -19,10 +19,10 @@ ghost use Rattle.scp_live_process.specs.inside.Replaying.{AddsClose, AddsCloses}
 ghost use Rattle.scp_live.specs.Living.{IsLive};
 
 use crate::batch::Batch;
+use scp_batches::below::live_log::{Entry, EventLog, Kept, LogFault};
 use scp_live::{Live, event_in, name_of, replay};
-use scp_live_log::{Entry, EventLog, Kept, LogFault};
-use scp_turn::{Event, KvDriver, Watch};
-use scp_types::Fault;
+use scp_stand_node::below::turn::{Event, KvDriver, Watch};
+use scp_stand_node::below::types::Fault;
 use std::alloc::{AllocError, Global};
 
 /// The line that closes the connection to a peer.

@@ -1,20 +1,20 @@
 //! A node runs, and what happens in each of its steps is written to a trace.
 ghost use Rattle.std.specs.Prelude.{◌≡◌, ◌≢◌, [], IfOk, OnOk, IfErr};
 ghost use Rattle.scp_trace_text.specs.Watching.{untold};
-ghost use Rattle.scp_live_config.specs.declared.settings.Settings.{Settings};
+ghost use Rattle.scp_live.specs.scp_live_config.specs.declared.settings.Settings.{Settings};
 ghost use Rattle.scp_live_process.specs.Stands.{AreNamesIn};
 ghost use Rattle.scp_live_process.specs.Ending.{streams, StopsTraced, EndsBy, EndsUntraced};
 ghost use Rattle.scp_live_process.specs.Starting.{IsTracedRun, TracesRun};
 
 use crate::process::run_settings;
 use crate::stand::names_of;
-use scp_device::{ReportOut, ScriptIn};
+use scp_batches::below::live_log::{EventLog, LogFault};
+use scp_live::below::live_config::Settings;
 use scp_live::{fail, refuse, settings_of};
-use scp_live_config::Settings;
-use scp_live_log::{EventLog, LogFault};
-use scp_stand_slot::Names;
+use scp_stand_node::below::device::{ReportOut, ScriptIn};
+use scp_stand_node::below::stand_slot::Names;
+use scp_stand_node::below::types::Fault;
 use scp_trace_text::{TracingWatch, what_is_traced_is_what_happened};
-use scp_types::Fault;
 use std::alloc::{AllocError, Global};
 
 /// Runs a node with this configuration; the watch writes what happens in each step. If the node ran to its end, but not all of that could

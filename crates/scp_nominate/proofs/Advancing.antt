@@ -4,14 +4,14 @@ use Rattle.std.specs.Option.{ForSome, option_map}
 use Rattle.std.specs.BTreeMap.{is_at}
 use Rattle.std.proofs.lemmas.List.Elements.{Contains-get_or}
 use Rattle.std.specs.List.Sorted.{IsStrictlySortedBy}
-use Rattle.scp_types.specs.declared.names.NodeId.{NodeId}
-use Rattle.scp_types.specs.declared.names.Hash.{Hash}
-use Rattle.scp_quorum.specs.NodeSet.{node_cmp}
-use Rattle.scp_quorum.specs.QuorumTree.{QuorumTree}
-use Rattle.scp_envelope.specs.declared.statement.Pledges.{Pledges}
-use Rattle.scp_envelope.specs.declared.statement.Envelope.{Envelope}
-use Rattle.scp_envelope.specs.Newer.{ArePledgesNewer, ContainsAll}
-use Rattle.scp_envelope.specs.Sane.{IsSane}
+use Rattle.scp_vote.specs.scp_types.specs.declared.names.NodeId.{NodeId}
+use Rattle.scp_vote.specs.scp_types.specs.declared.names.Hash.{Hash}
+use Rattle.scp_vote.specs.scp_quorum.specs.NodeSet.{node_cmp}
+use Rattle.scp_vote.specs.scp_quorum.specs.QuorumTree.{QuorumTree}
+use Rattle.scp_vote.specs.scp_envelope.specs.declared.statement.Pledges.{Pledges}
+use Rattle.scp_vote.specs.scp_envelope.specs.declared.statement.Envelope.{Envelope}
+use Rattle.scp_vote.specs.scp_envelope.specs.Newer.{ArePledgesNewer, ContainsAll}
+use Rattle.scp_vote.specs.scp_envelope.specs.Sane.{IsSane}
 use Rattle.scp_vote.specs.declared.claim.Claim.TheVariants.{Nominated as IsNominated}
 use Rattle.scp_vote.specs.declared.claim.Support.TheVariants.{VotesOrAccepts}
 use Rattle.scp_vote.specs.Claims.{Stands}

@@ -9,16 +9,16 @@ use Rattle.std.specs.declared.cmp.Ordering.TheVariants.{Less, Equal, Greater}
 use Rattle.std.proofs.lemmas.Cmp.{nat_list_cmp_total, tied_itself}
 use Rattle.std.proofs.lemmas.Map.Lookups.{exact_bytes}
 use Rattle.std.specs.List.Sorted.{IsStrictlySortedBy}
-use Rattle.scp_types.specs.declared.names.NodeId.{NodeId}
-use Rattle.scp_types.specs.declared.names.Hash.{Hash}
-use Rattle.scp_xdr.specs.Tree.{Trees, no_trees, tree_then, row_len}
-use Rattle.scp_quorum.specs.NodeSet.{node_cmp}
-use Rattle.scp_quorum.specs.QuorumTree.{Level as SetLevel, QuorumTree}
-use Rattle.scp_quorum.specs.Satisfies.{satisfied_count, Blocks}
-use Rattle.scp_quorum.specs.Sane.{AreInRange, IsInRange}
-use Rattle.scp_envelope.specs.declared.statement.Pledges.{Pledges}
-use Rattle.scp_envelope.specs.declared.statement.Envelope.{Envelope}
-use Rattle.scp_envelope.specs.Ballots.{value_cmp}
+use Rattle.scp_vote.specs.scp_types.specs.declared.names.NodeId.{NodeId}
+use Rattle.scp_vote.specs.scp_types.specs.declared.names.Hash.{Hash}
+use Rattle.scp_vote.specs.scp_xdr.specs.Tree.{Trees, no_trees, tree_then, row_len}
+use Rattle.scp_vote.specs.scp_quorum.specs.NodeSet.{node_cmp}
+use Rattle.scp_vote.specs.scp_quorum.specs.QuorumTree.{Level as SetLevel, QuorumTree}
+use Rattle.scp_vote.specs.scp_quorum.specs.Satisfies.{satisfied_count, Blocks}
+use Rattle.scp_vote.specs.scp_quorum.specs.Sane.{AreInRange, IsInRange}
+use Rattle.scp_vote.specs.scp_envelope.specs.declared.statement.Pledges.{Pledges}
+use Rattle.scp_vote.specs.scp_envelope.specs.declared.statement.Envelope.{Envelope}
+use Rattle.scp_vote.specs.scp_envelope.specs.Ballots.{value_cmp}
 use Rattle.scp_vote.specs.declared.claim.Claim.TheVariants.{Nominated}
 use Rattle.scp_vote.specs.declared.claim.Support.TheVariants.{VotesOrAccepts, Accepts}
 use Rattle.scp_vote.specs.Claims.{Stands}

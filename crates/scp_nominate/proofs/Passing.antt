@@ -1,9 +1,9 @@
 -- One pass of the steps gives one link, keeps the lists ready, and owes nothing on the board that it saw.
 use Rattle.std.proofs.Common.{◌≡◌, ◌<◌, ◌≤◌, ℕ, List, [], Option, IsSomeAnd, length, sym, ◌∙◌, ap, subst, ◌⊎◌, inl, inr, arith, get_or}
-use Rattle.scp_types.specs.declared.names.Hash.{Hash}
-use Rattle.scp_envelope.specs.Claims.{AcceptsValue}
-use Rattle.scp_envelope.specs.Sane.{IsSane}
-use Rattle.scp_envelope.specs.Newer.{ArePledgesNewer, ContainsAll}
+use Rattle.scp_vote.specs.scp_types.specs.declared.names.Hash.{Hash}
+use Rattle.scp_vote.specs.scp_envelope.specs.Claims.{AcceptsValue}
+use Rattle.scp_vote.specs.scp_envelope.specs.Sane.{IsSane}
+use Rattle.scp_vote.specs.scp_envelope.specs.Newer.{ArePledgesNewer, ContainsAll}
 use Rattle.scp_vote.specs.declared.claim.Claim.TheVariants.{Nominated}
 use Rattle.scp_vote.specs.Board.{Seen, Accepted, Confirmed}
 use Rattle.scp_vote.specs.Licence.{Follows}
@@ -16,10 +16,10 @@ use Rattle.scp_nominate.specs.Owed.{OwesNothing, Names}
 use Rattle.scp_nominate.specs.Own.{own_of, StandsFor, IsReady}
 use Rattle.scp_nominate.specs.inside.Own.{Passes, own_same, size, IsVoting, IsVoted}
 use Rattle.scp_nominate.proofs.Growing.{more_has, votes_more, votes_trans, few_stays, tried_stays}
-use Rattle.scp_envelope.proofs.Longer.{larger_is_longer}
+use Rattle.scp_vote.specs.scp_envelope.proofs.Longer.{larger_is_longer}
 use Rattle.std.proofs.lemmas.Bool.{cases_lt}
 use Rattle.std.proofs.lemmas.List.Elements.{Contains-get_or}
-use Rattle.scp_types.specs.declared.names.NodeId.{NodeId}
+use Rattle.scp_vote.specs.scp_types.specs.declared.names.NodeId.{NodeId}
 
 -- the own statement follows the one before it
 pub pass_follows : (full : List ℕ → Type 0) (b : Seen) (hash : Hash) (s t : Lists) → StandsFor (b.statement b.me) hash s → IsReady full s → Passes full b s t → Follows b (b.statement b.me) (own_of hash t)

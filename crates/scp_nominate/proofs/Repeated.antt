@@ -2,11 +2,11 @@
 use Rattle.std.proofs.Common.{◌≡◌, ◌↔◌, ℕ, zero, suc, List, length, Option, Some, cond, refl, ◌∙◌, ap, subst, inl, inr, arith}
 use Rattle.std.specs.BTreeMap.{is_at}
 use Rattle.std.proofs.Math.Path.{fun_ext}
-use Rattle.scp_types.specs.declared.names.NodeId.{NodeId}
-use Rattle.scp_types.specs.declared.names.Hash.{Hash}
-use Rattle.scp_quorum.specs.NodeSet.{node_cmp}
-use Rattle.scp_quorum.specs.QuorumTree.{QuorumTree}
-use Rattle.scp_envelope.specs.declared.statement.Pledges.{Pledges}
+use Rattle.scp_vote.specs.scp_types.specs.declared.names.NodeId.{NodeId}
+use Rattle.scp_vote.specs.scp_types.specs.declared.names.Hash.{Hash}
+use Rattle.scp_vote.specs.scp_quorum.specs.NodeSet.{node_cmp}
+use Rattle.scp_vote.specs.scp_quorum.specs.QuorumTree.{QuorumTree}
+use Rattle.scp_vote.specs.scp_envelope.specs.declared.statement.Pledges.{Pledges}
 use Rattle.scp_vote.specs.declared.claim.Claim.TheVariants.{Nominated}
 use Rattle.scp_vote.specs.Board.{Seen, Puts, Confirmed}
 use Rattle.scp_nominate.specs.declared.values.ValueSet.{ValueSet}

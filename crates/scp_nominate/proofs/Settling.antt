@@ -1,9 +1,9 @@
 -- The nominator settles: each pass gives one link of the chain.
 use Rattle.std.proofs.Common.{◌≡◌, ◌<◌, ◌≤◌, ◌-◌, ℕ, Bool, true, false, List, [], Some, length, refl, sym, ◌∙◌, ap, subst, cond, inl, inr, arith}
 use Rattle.std.specs.BTreeMap.{is_at}
-use Rattle.scp_types.specs.declared.names.Hash.{Hash}
-use Rattle.scp_quorum.specs.NodeSet.{node_cmp}
-use Rattle.scp_envelope.specs.declared.statement.Pledges.{Pledges}
+use Rattle.scp_vote.specs.scp_types.specs.declared.names.Hash.{Hash}
+use Rattle.scp_vote.specs.scp_quorum.specs.NodeSet.{node_cmp}
+use Rattle.scp_vote.specs.scp_envelope.specs.declared.statement.Pledges.{Pledges}
 use Rattle.scp_vote.specs.declared.claim.Claim.TheVariants.{Nominated}
 use Rattle.scp_vote.specs.declared.claim.Support.TheVariants.{VotesOrAccepts}
 use Rattle.scp_vote.specs.Claims.{Stands}
@@ -20,10 +20,10 @@ use Rattle.scp_nominate.specs.Owed.{Names}
 use Rattle.scp_nominate.specs.State.{own_at, IsAtRest}
 use Rattle.scp_nominate.specs.inside.State.{Renews, NewAreConfirmed, Tells, IsTold, IsSettling}
 use Rattle.scp_nominate.proofs.Passing.{pass_follows, pass_keeps, unchanged, own_of_same, grows, size_bounded, own_sane, own_newer, within}
-use Rattle.scp_envelope.specs.declared.statement.Nominate.{Nominate}
-use Rattle.scp_envelope.specs.declared.statement.Pledges.TheVariants.{Prepare as Preparing, Confirm as Confirming, Externalize as Externalizing, Nominate as Nominating}
-use Rattle.scp_envelope.specs.Newer.{ArePledgesNewer, IsNewerNominate}
-use Rattle.scp_envelope.proofs.Growing.{newer_nominate-trans}
+use Rattle.scp_vote.specs.scp_envelope.specs.declared.statement.Nominate.{Nominate}
+use Rattle.scp_vote.specs.scp_envelope.specs.declared.statement.Pledges.TheVariants.{Prepare as Preparing, Confirm as Confirming, Externalize as Externalizing, Nominate as Nominating}
+use Rattle.scp_vote.specs.scp_envelope.specs.Newer.{ArePledgesNewer, IsNewerNominate}
+use Rattle.scp_vote.specs.scp_envelope.proofs.Growing.{newer_nominate-trans}
 use Rattle.scp_nominate.proofs.Options.{some_same, none_some, at_some, same_some_and}
 use Rattle.scp_nominate.proofs.Growing.{more_trans, votes_more}
 use Rattle.scp_nominate.specs.Steps.{AreVoted}

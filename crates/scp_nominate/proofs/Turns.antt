@@ -1,7 +1,7 @@
 -- One after the other, over a loop; and what one value does.
 use Rattle.std.proofs.Common.{◌≡◌, ◌≢◌, ◌<◌, ◌≤◌, ◌+◌, ℕ, zero, suc, List, [], ◌∷◌, length, get_or, drop, Option, Some, None, refl, sym, ◌∙◌, ap, subst, ◌⊎◌, inl, inr, arith, Contains}
 use Rattle.std.proofs.lemmas.List.{drop_more, drop_all}
-use Rattle.scp_envelope.specs.Ballots.{value_cmp}
+use Rattle.scp_vote.specs.scp_envelope.specs.Ballots.{value_cmp}
 use Rattle.scp_vote.specs.declared.claim.Claim.TheVariants.{Nominated}
 use Rattle.scp_vote.specs.Board.{Seen, Accepted}
 use Rattle.std.specs.declared.cmp.Ordering.{Ordering}

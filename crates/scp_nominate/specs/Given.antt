@@ -2,10 +2,10 @@
 use Rattle.std.specs.Prelude.{◌≡◌, ◌<◌, ◌↔◌, ℕ, List, length, Option, IsSome, IsSomeAnd}
 use Rattle.std.specs.Option.{ForSome}
 use Rattle.std.specs.List.Sorted.{IsStrictlySortedBy}
-use Rattle.scp_envelope.specs.Ballots.{value_cmp}
-use Rattle.scp_envelope.specs.Newer.{ArePledgesNewer}
-use Rattle.scp_envelope.specs.Sane.{IsSane}
-use Rattle.scp_envelope.specs.declared.statement.Pledges.{Pledges}
+use Rattle.scp_vote.specs.scp_envelope.specs.Ballots.{value_cmp}
+use Rattle.scp_vote.specs.scp_envelope.specs.Newer.{ArePledgesNewer}
+use Rattle.scp_vote.specs.scp_envelope.specs.Sane.{IsSane}
+use Rattle.scp_vote.specs.scp_envelope.specs.declared.statement.Pledges.{Pledges}
 
 -- there is a statement now, it is sane, and it is newer than the one before, if there was one
 abbrev pub IsWorth : Option Pledges → Option Pledges → Type 0

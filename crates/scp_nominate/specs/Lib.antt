@@ -1,3 +1,10 @@
+pub use Rattle.scp_vote.specs.scp_types
+pub use Rattle.scp_vote.specs.scp_xdr
+pub use Rattle.scp_vote.specs.scp_quorum
+pub use Rattle.scp_vote.specs.scp_envelope
+pub use Rattle.scp_driver.specs.scp_kv
+pub use Rattle.scp_vote
+pub use Rattle.scp_driver
 pub mod Heard
 pub mod Values
 pub mod Steps

@@ -1,7 +1,7 @@
 -- A value in an ascending list, and the seven places of the votes (this project's profile).
 use Rattle.std.specs.Prelude.{◌≡◌, ◌<◌, ◌↔◌, ◌⊎◌, ℕ, List, length, Option, Some, None, Contains}
 use Rattle.std.specs.List.Sorted.{IsStrictlySortedBy}
-use Rattle.scp_envelope.specs.Ballots.{value_cmp}
+use Rattle.scp_vote.specs.scp_envelope.specs.Ballots.{value_cmp}
 
 -- The value is in the list, which ascends, with all that was there and nothing else.
 pub record Joins (v : List ℕ) (old new : List (List ℕ)) : Type 0 where

@@ -1,8 +1,8 @@
 -- The steps in their order, repeated until they change nothing (this project's profile).
 use Rattle.std.specs.Prelude.{◌≡◌, ◌⊎◌, ℕ, zero, suc, List, Option, Some}
-use Rattle.scp_types.specs.declared.names.NodeId.{NodeId}
-use Rattle.scp_types.specs.declared.names.Hash.{Hash}
-use Rattle.scp_envelope.specs.declared.statement.Pledges.TheVariants.{Nominate as Nominating}
+use Rattle.scp_vote.specs.scp_types.specs.declared.names.NodeId.{NodeId}
+use Rattle.scp_vote.specs.scp_types.specs.declared.names.Hash.{Hash}
+use Rattle.scp_vote.specs.scp_envelope.specs.declared.statement.Pledges.TheVariants.{Nominate as Nominating}
 use Rattle.scp_vote.specs.Board.{Seen}
 use Rattle.scp_vote.specs.Licence.{with_own}
 use Rattle.scp_nominate.specs.Owed.{OwnLists}

@@ -1,6 +1,6 @@
 -- The part of a nominator that its inputs change.
 use Rattle.std.specs.Prelude.{List, ℕ, Option}
-use Rattle.scp_envelope.specs.declared.statement.Pledges.{Pledges}
+use Rattle.scp_vote.specs.scp_envelope.specs.declared.statement.Pledges.{Pledges}
 use Rattle.scp_vote.specs.Board.{KeepsOwn}
 use Rattle.scp_nominate.specs.Heard.{heard}
 use Rattle.scp_nominate.specs.declared.state.State.{State}

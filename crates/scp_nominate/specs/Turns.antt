@@ -1,10 +1,10 @@
 -- Who leads (this project's profile).
 use Rattle.std.specs.Prelude.{◌≡◌, ◌≤◌, ◌↔◌, ◌⊎◌, ℕ, List, length, slice_get, Some, Contains}
 use Rattle.std.specs.List.Sorted.{IsStrictlySortedBy}
-use Rattle.scp_types.specs.declared.names.NodeId.{NodeId}
-use Rattle.scp_quorum.specs.NodeSet.{node_cmp}
-use Rattle.scp_quorum.specs.QuorumTree.{QuorumTree}
-use Rattle.scp_quorum.specs.Sane.{all_nodes}
+use Rattle.scp_vote.specs.scp_types.specs.declared.names.NodeId.{NodeId}
+use Rattle.scp_vote.specs.scp_quorum.specs.NodeSet.{node_cmp}
+use Rattle.scp_vote.specs.scp_quorum.specs.QuorumTree.{QuorumTree}
+use Rattle.scp_vote.specs.scp_quorum.specs.Sane.{all_nodes}
 
 -- the node leads one of the rounds so far: it is at the place of that round's leader
 abbrev pub Leads : (ℕ → ℕ → ℕ) → List NodeId → ℕ → NodeId → Type 0

@@ -1,9 +1,9 @@
 -- Step 1: what is voted for while there is no candidate (the SCP draft; the order is this project's profile).
 use Rattle.std.specs.Prelude.{◌≡◌, ◌≢◌, ◌↔◌, ◌⊎◌, ℕ, List, [], Option, Contains}
 use Rattle.std.specs.List.Sorted.{IsStrictlySortedBy}
-use Rattle.scp_types.specs.declared.names.NodeId.{NodeId}
-use Rattle.scp_quorum.specs.NodeSet.{node_cmp}
-use Rattle.scp_envelope.specs.Ballots.{value_cmp}
+use Rattle.scp_vote.specs.scp_types.specs.declared.names.NodeId.{NodeId}
+use Rattle.scp_vote.specs.scp_quorum.specs.NodeSet.{node_cmp}
+use Rattle.scp_vote.specs.scp_envelope.specs.Ballots.{value_cmp}
 use Rattle.scp_vote.specs.Board.{Seen}
 use Rattle.scp_nominate.specs.Owed.{OwnLists, Names}
 use Rattle.scp_nominate.specs.InTurn.{InTurn}

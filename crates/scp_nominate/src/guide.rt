@@ -1,7 +1,7 @@
 //! What the steps of nomination read, and the steps.
 ghost use Rattle.std.specs.Prelude.{◌≡◌, ◌↔◌, ◌⊎◌, IsTrue, [], ℕ, List, Some, Contains, OnOk, IsOkUnless};
 ghost use Rattle.std.specs.Option.{ForSome};
-ghost use Rattle.scp_types.specs.declared.names.NodeId.{NodeId};
+ghost use Rattle.scp_vote.specs.scp_types.specs.declared.names.NodeId.{NodeId};
 ghost use Rattle.scp_driver.specs.Driver.{IsFull};
 ghost use Rattle.scp_nominate.specs.Heard.{heard};
 ghost use Rattle.scp_nominate.specs.inside.Own.{IsVoting, IsVoted, Passes};
@@ -14,15 +14,15 @@ ghost use Rattle.scp_nominate.specs.inside.Values.{items};
 ghost use Rattle.scp_nominate.specs.Voting.{VotesOwn, VotesFirst};
 ghost use Rattle.scp_nominate.specs.Repeating.{StepsOnce};
 ghost use Rattle.std.specs.List.Sorted.{IsStrictlySortedBy};
-ghost use Rattle.scp_quorum.specs.NodeSet.{node_cmp};
+ghost use Rattle.scp_vote.specs.scp_quorum.specs.NodeSet.{node_cmp};
 
 use crate::heard::me_of;
 use crate::leaders::vote_leaders;
 use crate::lists::{Lists, accept, confirm, vote};
 use crate::values::ValueSet;
 use scp_driver::Driver;
-use scp_types::{Fault, NodeId, Slot, Value};
 use scp_vote::Board;
+use scp_vote::below::types::{Fault, NodeId, Slot, Value};
 use std::alloc::Global;
 
 /// What the steps read: the driver, the slot, the leaders so far, ascending, and this node's proposal.

@@ -5,9 +5,9 @@ ghost use Rattle.scp_vote.specs.Board.{kind_of_pledges, PutsCounted, IsNewBoard}
 ghost use Rattle.scp_vote.specs.declared.claim.StatementKind.TheVariants.{Nomination};
 ghost use Rattle.scp_nominate.specs.Heard.{heard};
 
-use scp_envelope::SharedEnvelope;
-use scp_quorum::SaneSet;
-use scp_types::{Fault, NodeId};
+use scp_vote::below::envelope::SharedEnvelope;
+use scp_vote::below::quorum::SaneSet;
+use scp_vote::below::types::{Fault, NodeId};
 use scp_vote::{Board, StatementKind};
 use std::alloc::Global;
 use std::sync::Arc;

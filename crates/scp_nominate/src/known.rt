@@ -7,7 +7,7 @@ ghost use Rattle.scp_nominate.specs.inside.Steps.{Learns};
 use crate::leaders::add;
 use crate::values::ValueSet;
 use scp_driver::{Driver, Level};
-use scp_types::{Fault, Slot, Value};
+use scp_vote::below::types::{Fault, Slot, Value};
 
 /// Adds the value if it is fully validated.
 #[tactic(auto, using(crate::proofs::Knowing::learns_none, crate::proofs::Knowing::learns_one))]

@@ -1,9 +1,9 @@
 //! Votes for what other leaders name.
 ghost use Rattle.std.specs.Prelude.{◌≡◌, ◌≢◌, ◌⊎◌, ℕ, List, Contains, IfOk, OnOk, IsOkUnless};
-ghost use Rattle.scp_types.specs.declared.names.NodeId.{NodeId};
+ghost use Rattle.scp_vote.specs.scp_types.specs.declared.names.NodeId.{NodeId};
 ghost use Rattle.scp_driver.specs.Driver.{IsFull};
 ghost use Rattle.scp_nominate.specs.Heard.{heard};
-ghost use Rattle.scp_envelope.specs.Claims.{VotesValue, AcceptsValue};
+ghost use Rattle.scp_vote.specs.scp_envelope.specs.Claims.{VotesValue, AcceptsValue};
 ghost use Rattle.scp_nominate.specs.Values.{Has};
 ghost use Rattle.scp_nominate.specs.inside.Values.{items};
 ghost use Rattle.scp_nominate.specs.inside.Steps.{More, MoreVotes, IsTried};
@@ -15,9 +15,9 @@ use crate::heard::{me_of, statement_of};
 use crate::lists::vote;
 use crate::values::ValueSet;
 use scp_driver::{Driver, Level};
-use scp_envelope::Pledges;
-use scp_types::{Fault, NodeId, Slot, Value};
 use scp_vote::Board;
+use scp_vote::below::envelope::Pledges;
+use scp_vote::below::types::{Fault, NodeId, Slot, Value};
 use std::alloc::Global;
 
 /// Adds the value to the set, if it isn't there.

@@ -13,6 +13,7 @@
 //! What it promises for its steps: by one rule, over one board, they lead from one state to exactly one board and one state.
 #![tactic(auto)]
 
+pub mod below;
 mod guide;
 mod heard;
 mod known;

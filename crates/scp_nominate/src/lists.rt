@@ -12,7 +12,7 @@ ghost use Rattle.scp_nominate.specs.Places.{VotesOne};
 ghost use Rattle.scp_nominate.specs.Taking.{TakesOne};
 
 use crate::values::ValueSet;
-use scp_types::{Fault, Value};
+use scp_vote::below::types::{Fault, Value};
 use scp_vote::{Board, Claim};
 
 /// The most values of an own list (this project's profile).

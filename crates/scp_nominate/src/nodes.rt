@@ -1,14 +1,14 @@
 //! The nodes that lead in turn.
 ghost use Rattle.std.specs.Prelude.{◌≡◌, ◌≤◌, IfOk, IfErr, OnOk, IsOkUnless, ◌⊎◌, ◌↔◌, Contains, length, slice_get, Some};
-ghost use Rattle.scp_types.specs.declared.names.NodeId.{NodeId};
+ghost use Rattle.scp_vote.specs.scp_types.specs.declared.names.NodeId.{NodeId};
 ghost use Rattle.std.specs.List.Sorted.{IsStrictlySortedBy};
-ghost use Rattle.scp_quorum.specs.NodeSet.{node_cmp};
+ghost use Rattle.scp_vote.specs.scp_quorum.specs.NodeSet.{node_cmp};
 ghost use Rattle.scp_nominate.specs.Turns.{AreInTurn};
 ghost use Rattle.scp_nominate.specs.inside.Turns.{IsNodeGap};
 
 use scp_driver::Driver;
-use scp_quorum::QuorumSet;
-use scp_types::{Fault, NodeId, Slot};
+use scp_vote::below::quorum::QuorumSet;
+use scp_vote::below::types::{Fault, NodeId, Slot};
 
 /// This node and the nodes of its set, ascending, each once. The only refusal is `NoMemory`.
 pub fn nodes_with(me: NodeId, set: &QuorumSet) -> Result<Vec<NodeId>, Fault>

@@ -1,6 +1,6 @@
 //! What an input gives.
-use scp_envelope::SharedEnvelope;
-use scp_types::Value;
+use scp_vote::below::envelope::SharedEnvelope;
+use scp_vote::below::types::Value;
 
 /// What an input gives: the own statement if it is to be emitted, and the composite if the candidates grew.
 #[derive(Drop)]

@@ -13,10 +13,10 @@ use crate::nodes::{add_leader, nodes_with};
 use crate::nominated::Nominated;
 use crate::state::State;
 use scp_driver::Driver;
-use scp_envelope::SharedEnvelope;
-use scp_quorum::SaneSet;
-use scp_types::{Fault, NodeId, Slot, Value};
 use scp_vote::Board;
+use scp_vote::below::envelope::SharedEnvelope;
+use scp_vote::below::quorum::SaneSet;
+use scp_vote::below::types::{Fault, NodeId, Slot, Value};
 use std::alloc::Global;
 use std::sync::Arc;
 
@@ -33,8 +33,8 @@ pub struct Nominator<D: Driver + Drop> {
 
 impl<D: Driver + Drop> Nominator<D> {
     ghost use Rattle.std.specs.List.Sorted.{IsStrictlySortedBy};
-    ghost use Rattle.scp_quorum.specs.NodeSet.{node_cmp};
-    ghost use Rattle.scp_types.specs.declared.names.NodeId.{NodeId};
+    ghost use Rattle.scp_vote.specs.scp_quorum.specs.NodeSet.{node_cmp};
+    ghost use Rattle.scp_vote.specs.scp_types.specs.declared.names.NodeId.{NodeId};
     ghost use Rattle.scp_nominate.specs.Turns.{Leads};
     ghost use Rattle.scp_nominate.specs.State.{IsAtRest};
     ghost use Rattle.scp_nominate.specs.inside.State.{IsSettling, IsOwnOf};

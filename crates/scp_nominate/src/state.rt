@@ -4,13 +4,13 @@ ghost use Rattle.scp_vote.specs.Board.{kind_of_pledges};
 ghost use Rattle.scp_vote.specs.declared.claim.StatementKind.TheVariants.{Nomination};
 ghost use Rattle.scp_nominate.specs.Heard.{heard};
 ghost use Rattle.std.specs.Option.{ForSome};
-ghost use Rattle.scp_types.specs.declared.names.NodeId.{NodeId};
+ghost use Rattle.scp_vote.specs.scp_types.specs.declared.names.NodeId.{NodeId};
 ghost use Rattle.scp_driver.specs.Driver.{IsFull};
 ghost use Rattle.scp_nominate.specs.Owed.{OwesNothing, MayVote, VotesFor};
 ghost use Rattle.scp_nominate.specs.Steps.{own_lists};
 ghost use Rattle.scp_nominate.specs.Repeating.{LeadsTo};
 ghost use Rattle.std.specs.List.Sorted.{IsStrictlySortedBy};
-ghost use Rattle.scp_quorum.specs.NodeSet.{node_cmp};
+ghost use Rattle.scp_vote.specs.scp_quorum.specs.NodeSet.{node_cmp};
 
 use crate::guide::Guide;
 use crate::heard::{local_of, me_of, new_board, put_nominate};
@@ -20,10 +20,12 @@ use crate::lists::Lists;
 use crate::nominated::Nominated;
 use crate::values::ValueSet;
 use scp_driver::Driver;
-use scp_envelope::{Envelope, Nominate, Pledges, SharedEnvelope, Signature, Statement};
-use scp_quorum::SaneSet;
-use scp_types::{Fault, Hash, NodeId, Slot, Value};
 use scp_vote::Board;
+use scp_vote::below::envelope::{
+    Envelope, Nominate, Pledges, SharedEnvelope, Signature, Statement,
+};
+use scp_vote::below::quorum::SaneSet;
+use scp_vote::below::types::{Fault, Hash, NodeId, Slot, Value};
 use std::alloc::Global;
 use std::sync::Arc;
 

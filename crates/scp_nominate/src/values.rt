@@ -1,11 +1,11 @@
 //! Values that ascend by bytes, each once.
 ghost use Rattle.std.specs.Prelude.{◌≡◌, ◌↔◌, ℕ, List, [], length, IsTrue, IfOk, IfErr, OnOk, IsOkUnless, Contains};
 ghost use Rattle.std.specs.List.Sorted.{IsStrictlySortedBy};
-ghost use Rattle.scp_envelope.specs.Ballots.{value_cmp};
+ghost use Rattle.scp_vote.specs.scp_envelope.specs.Ballots.{value_cmp};
 ghost use Rattle.std.proofs.Props.{props};
 
-use scp_envelope::ValueList;
-use scp_types::{Fault, Value};
+use scp_vote::below::envelope::ValueList;
+use scp_vote::below::types::{Fault, Value};
 use std::alloc::Global;
 
 /// Values that ascend by bytes, each once.

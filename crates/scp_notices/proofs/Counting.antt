@@ -1,7 +1,7 @@
 -- One number more.
 use Rattle.std.proofs.Common.{◌≡◌, ◌+◌, ◌∙◌, ℕ, suc, List, [], ◌∷◌, ◌++◌, flat_map, ap, sym, append-nil, append_assoc, arith}
 use Rattle.std.proofs.lemmas.Grind.{flat_map-append}
-use Rattle.scp_script.specs.Nodes.{numbers}
+use Rattle.scp_line.specs.scp_script.specs.Nodes.{numbers}
 
 one_more : {X : Type 0} (f : ℕ → List X) (n : ℕ) → flat_map f (numbers (n + 1)) ≡ flat_map f (numbers n) ++ f (n + 1)
 one_more f n =

@@ -1,9 +1,9 @@
 -- Each command of a script has the number of its line.
 use Rattle.std.proofs.Common.{◌≡◌, ◌+◌, ◌++◌, ◌∙◌, [], ◌∷◌, ℕ, suc, List, None, length, map, refl, sym, ap}
 use Rattle.std.specs.Prelude.{Option, Some, option_to_list}
-use Rattle.scp_script.specs.declared.command.Command.{Command}
-use Rattle.scp_script.specs.Words.{words_of}
-use Rattle.scp_script.specs.Script.{command_in, commands_of}
+use Rattle.scp_line.specs.scp_script.specs.declared.command.Command.{Command}
+use Rattle.scp_line.specs.scp_script.specs.Words.{words_of}
+use Rattle.scp_line.specs.scp_script.specs.Script.{command_in, commands_of}
 use Rattle.scp_script_check.specs.Lines.{IsSaid, numbers_of}
 
 one_each : (o : Option Command) (number : ℕ) (rest : List ℕ) (others : List Command) → length rest ≡ length others → length (map (λ (command : Command). number) (option_to_list o) ++ rest) ≡ length (option_to_list o ++ others)

@@ -4,17 +4,17 @@ use Rattle.std.specs.Prelude.{◌⊎◌, All}
 use Rattle.std.proofs.lemmas.List.{get_or-map, length-map}
 use Rattle.std.proofs.lemmas.List.Elements.{All-nil, All-cons, All-head, All-tail}
 use Rattle.std.proofs.lemmas.Option.{slice_get-get_or}
-use Rattle.scp_ledger.specs.declared.journal.Decision.{Decision}
-use Rattle.scp_apply.specs.Applied.{AreInOrder}
-use Rattle.scp_core.specs.History.{Exchange}
-use Rattle.scp_core.specs.Kv.{HoldsLedger, FailedAfter, TheoremGivesLedger, NodeView}
-use Rattle.scp_turn.specs.Heard.{past_at}
-use Rattle.scp_turn.specs.Network.{NetworkView}
-use Rattle.scp_gather.specs.Kv.{NodeReport, ReportsKeepHeadline}
+use Rattle.scp_line.specs.scp_ledger.specs.declared.journal.Decision.{Decision}
+use Rattle.scp_line.specs.scp_apply.specs.Applied.{AreInOrder}
+use Rattle.scp_line.specs.scp_core.specs.History.{Exchange}
+use Rattle.scp_line.specs.scp_core.specs.Kv.{HoldsLedger, FailedAfter, TheoremGivesLedger, NodeView}
+use Rattle.scp_line.specs.scp_turn.specs.Heard.{past_at}
+use Rattle.scp_line.specs.scp_turn.specs.Network.{NetworkView}
+use Rattle.scp_line.specs.scp_gather.specs.Kv.{NodeReport, ReportsKeepHeadline}
 use Rattle.scp_line.specs.scp_threaded_script.specs.Reported.{AreNodesReported}
-use Rattle.scp_script.specs.declared.command.Command.{Command}
-use Rattle.scp_script.specs.Nodes.{id_of, peers_of, set_at}
-use Rattle.scp_script.specs.Script.{node_count}
+use Rattle.scp_line.specs.scp_script.specs.declared.command.Command.{Command}
+use Rattle.scp_line.specs.scp_script.specs.Nodes.{id_of, peers_of, set_at}
+use Rattle.scp_line.specs.scp_script.specs.Script.{node_count}
 use Rattle.scp_line.specs.Nodes.{HasPlayed}
 use Rattle.scp_line.specs.scp_report.specs.declared.report.Report.{Report}
 use Rattle.scp_line.specs.scp_report.specs.Report.{ReportView, view_of}

@@ -4,17 +4,17 @@ use Rattle.std.specs.Prelude.{option_to_list, slice_get, if◌then◌else◌}
 use Rattle.std.proofs.lemmas.List.{map-append}
 use Rattle.std.proofs.lemmas.List.Elements.{filter-append}
 use Rattle.std.proofs.lemmas.Option.{same_Some, slice_get-get_or, slice_get_within}
-use Rattle.scp_ledger.specs.declared.took.CommandFate.{CommandFate}
-use Rattle.scp_core.specs.declared.event.Event.{Event}
-use Rattle.scp_core.specs.declared.event.Event.TheVariants as event
-use Rattle.scp_core.specs.declared.event.Reply.{Reply}
-use Rattle.scp_core.specs.declared.event.Reply.TheVariants as reply
-use Rattle.scp_turn.specs.Commands.{TakenCommand, fates_taken, taken_at, taken_by, AreInTurn}
-use Rattle.scp_core.specs.Kv.{NodeView, Step}
-use Rattle.scp_turn.specs.Kv.{taken_over}
-use Rattle.scp_turn.specs.Heard.{past_at, Noted}
-use Rattle.scp_turn.specs.Network.{NetworkView}
-use Rattle.scp_script.specs.declared.command.Command.{Command}
+use Rattle.scp_line.specs.scp_ledger.specs.declared.took.CommandFate.{CommandFate}
+use Rattle.scp_line.specs.scp_core.specs.declared.event.Event.{Event}
+use Rattle.scp_line.specs.scp_core.specs.declared.event.Event.TheVariants as event
+use Rattle.scp_line.specs.scp_core.specs.declared.event.Reply.{Reply}
+use Rattle.scp_line.specs.scp_core.specs.declared.event.Reply.TheVariants as reply
+use Rattle.scp_line.specs.scp_turn.specs.Commands.{TakenCommand, fates_taken, taken_at, taken_by, AreInTurn}
+use Rattle.scp_line.specs.scp_core.specs.Kv.{NodeView, Step}
+use Rattle.scp_line.specs.scp_turn.specs.Kv.{taken_over}
+use Rattle.scp_line.specs.scp_turn.specs.Heard.{past_at, Noted}
+use Rattle.scp_line.specs.scp_turn.specs.Network.{NetworkView}
+use Rattle.scp_line.specs.scp_script.specs.declared.command.Command.{Command}
 use Rattle.scp_line.specs.Commands.{commands_to, FatesAreOfTheirLines}
 use Rattle.scp_line.specs.Player.{Lining, IsRun}
 use Rattle.scp_line.specs.inside.Player.{NotesAs}

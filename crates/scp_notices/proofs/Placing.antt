@@ -6,16 +6,16 @@ use Rattle.std.proofs.lemmas.Grind.{flat_map-append}
 use Rattle.std.proofs.lemmas.List.{map-append}
 use Rattle.std.proofs.lemmas.List.Elements.{filter-append}
 use Rattle.std.proofs.lemmas.Option.{none-some, same_Some, slice_get-map}
-use Rattle.scp_wire.specs.declared.link.Command.{Command as LocalCommand}
-use Rattle.scp_wire.specs.declared.link.Command.TheVariants as local
-use Rattle.scp_wire.specs.declared.link.Inbound.{Inbound}
-use Rattle.scp_wire.specs.declared.link.Inbound.TheVariants.{Local}
-use Rattle.scp_pending.specs.Endings.{passing, passing_command, commands_in}
-use Rattle.scp_ledger.specs.declared.took.CommandFate.{CommandFate}
-use Rattle.scp_turn.specs.Commands.{TakenCommand, commands_taken, fates_taken}
-use Rattle.scp_gather.specs.Kv.{NodeReport}
-use Rattle.scp_script.specs.declared.command.Command.{Command}
-use Rattle.scp_script.specs.declared.command.Command.TheVariants as script
+use Rattle.scp_line.specs.scp_wire.specs.declared.link.Command.{Command as LocalCommand}
+use Rattle.scp_line.specs.scp_wire.specs.declared.link.Command.TheVariants as local
+use Rattle.scp_line.specs.scp_wire.specs.declared.link.Inbound.{Inbound}
+use Rattle.scp_line.specs.scp_wire.specs.declared.link.Inbound.TheVariants.{Local}
+use Rattle.scp_line.specs.scp_pending.specs.Endings.{passing, passing_command, commands_in}
+use Rattle.scp_line.specs.scp_ledger.specs.declared.took.CommandFate.{CommandFate}
+use Rattle.scp_line.specs.scp_turn.specs.Commands.{TakenCommand, commands_taken, fates_taken}
+use Rattle.scp_line.specs.scp_gather.specs.Kv.{NodeReport}
+use Rattle.scp_line.specs.scp_script.specs.declared.command.Command.{Command}
+use Rattle.scp_line.specs.scp_script.specs.declared.command.Command.TheVariants as script
 use Rattle.scp_line.specs.scp_threaded_script.specs.Lines.{link_of, local_by, told_to, command_by, commands_for}
 use Rattle.scp_line.specs.Commands.{commands_to, taken_among, HasFatesOfLines}
 use Rattle.scp_line.specs.scp_report.specs.Report.{ReportView}

@@ -1,12 +1,12 @@
 -- Why a script isn't played to its end.
 use Rattle.std.proofs.Common.{◌≡◌, ◌∙◌, ℕ, List, refl, inl}
 use Rattle.std.specs.Prelude.{◌≢◌, Result, Ok, Err, IfErr}
-use Rattle.scp_types.specs.declared.fault.Fault.{Fault}
-use Rattle.scp_types.specs.declared.fault.Fault.TheVariants as faults
+use Rattle.scp_line.specs.scp_types.specs.declared.fault.Fault.{Fault}
+use Rattle.scp_line.specs.scp_types.specs.declared.fault.Fault.TheVariants as faults
 use Rattle.scp_line.specs.scp_threaded_script.specs.Reported.{IsGivenUp}
-use Rattle.scp_script.specs.declared.command.Command.{Command}
+use Rattle.scp_line.specs.scp_script.specs.declared.command.Command.{Command}
 use Rattle.scp_line.specs.declared.playing.PlayFault.{PlayFault}
-use Rattle.scp_script_check.specs.scp_device.specs.declared.bad.ReadFault.TheVariants as reads
+use Rattle.scp_line.specs.scp_device.specs.declared.bad.ReadFault.TheVariants as reads
 use Rattle.scp_script_check.specs.Lines.{IsSaid}
 use Rattle.scp_notices.specs.declared.playing.RunFault.{RunFault}
 use Rattle.scp_notices.specs.declared.playing.RunFault.TheVariants.{Unread, Stopped, GivenUp}

@@ -2,8 +2,8 @@
 use Rattle.std.proofs.Common.{◌≡◌, ℕ, ◌+◌, ◌-◌, ◌<◌, ◌≤◌, true, false, List, [], ◌∷◌, length, get_or, refl, sym, ◌∙◌, ap, subst, arith, nat_eq, eq-eqb}
 use Rattle.std.specs.Prelude.{Some, None, zero, suc}
 use Rattle.std.proofs.lemmas.Bool.{ne_eqb}
-use Rattle.scp_ledger.specs.declared.journal.Decision.{Decision}
-use Rattle.scp_apply.specs.Applied.{AreInOrder, value_of}
+use Rattle.scp_line.specs.scp_ledger.specs.declared.journal.Decision.{Decision}
+use Rattle.scp_line.specs.scp_apply.specs.Applied.{AreInOrder, value_of}
 
 value_there : (from n : ℕ) (ds : List Decision) (d : Decision) → AreInOrder from ds → n < length ds → value_of (from + n) ds ≡ Some (get_or ds n d).value
 value_there from n [] d h lt = absurd (omega arith)

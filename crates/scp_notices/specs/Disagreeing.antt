@@ -3,9 +3,9 @@ use Rattle.std.specs.Prelude.{ℕ, ◌+◌, ◌++◌, Bool, false, not, List, []
 use Rattle.std.specs.List.{list_any}
 use Rattle.std.specs.Cmp.Lexicographic.{pointwise}
 use Rattle.std.specs.Prelude.{nat_eq}
-use Rattle.scp_ledger.specs.declared.journal.Decision.{Decision}
-use Rattle.scp_apply.specs.Applied.{value_of}
-use Rattle.scp_script.specs.Nodes.{numbers}
+use Rattle.scp_line.specs.scp_ledger.specs.declared.journal.Decision.{Decision}
+use Rattle.scp_line.specs.scp_apply.specs.Applied.{value_of}
+use Rattle.scp_line.specs.scp_script.specs.Nodes.{numbers}
 use Rattle.scp_notices.specs.declared.notice.Side.{Side}
 use Rattle.scp_notices.specs.declared.notice.Notice.{Notice}
 use Rattle.scp_notices.specs.declared.notice.Notice.TheVariants.{Disagree}

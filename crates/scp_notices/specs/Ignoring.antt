@@ -1,15 +1,15 @@
 -- What became of the commands of a script, line by line (this project's profile). A node takes its commands in the order of their lines.
 use Rattle.std.specs.Prelude.{ℕ, ◌+◌, ◌≡◌, Bool, true, false, List, [], ◌∷◌, ◌++◌, Option, Some, None, filter, length, map, nat_eq, option_to_list, slice_get, if◌then◌else◌}
-use Rattle.scp_ledger.specs.declared.took.CommandFate.{CommandFate}
-use Rattle.scp_ledger.specs.declared.took.CommandFate.TheVariants as fates
-use Rattle.scp_core.specs.declared.event.Event.{Event}
-use Rattle.scp_core.specs.declared.event.Event.TheVariants.{SlotTake}
-use Rattle.scp_core.specs.declared.event.Reply.{Reply}
-use Rattle.scp_core.specs.declared.event.Reply.TheVariants.{Moved}
-use Rattle.scp_core.specs.Kv.{NodeView}
-use Rattle.scp_turn.specs.Kv.{Noting}
-use Rattle.scp_script.specs.declared.command.Command.{Command}
-use Rattle.scp_script.specs.declared.command.Command.TheVariants.{Propose, Round, Timer, Ask}
+use Rattle.scp_line.specs.scp_ledger.specs.declared.took.CommandFate.{CommandFate}
+use Rattle.scp_line.specs.scp_ledger.specs.declared.took.CommandFate.TheVariants as fates
+use Rattle.scp_line.specs.scp_core.specs.declared.event.Event.{Event}
+use Rattle.scp_line.specs.scp_core.specs.declared.event.Event.TheVariants.{SlotTake}
+use Rattle.scp_line.specs.scp_core.specs.declared.event.Reply.{Reply}
+use Rattle.scp_line.specs.scp_core.specs.declared.event.Reply.TheVariants.{Moved}
+use Rattle.scp_line.specs.scp_core.specs.Kv.{NodeView}
+use Rattle.scp_line.specs.scp_turn.specs.Kv.{Noting}
+use Rattle.scp_line.specs.scp_script.specs.declared.command.Command.{Command}
+use Rattle.scp_line.specs.scp_script.specs.declared.command.Command.TheVariants.{Propose, Round, Timer, Ask}
 use Rattle.scp_notices.specs.declared.commands.Told.{Told}
 use Rattle.scp_notices.specs.declared.notice.Notice.{Notice}
 use Rattle.scp_notices.specs.declared.notice.Notice.TheVariants.{Ignored}

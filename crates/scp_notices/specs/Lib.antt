@@ -1,4 +1,13 @@
+pub use Rattle.scp_line.specs.scp_pending
+pub use Rattle.scp_line.specs.scp_ledger
+pub use Rattle.scp_line.specs.scp_core
+pub use Rattle.scp_line.specs.scp_turn
+pub use Rattle.scp_line.specs.scp_gather
+pub use Rattle.scp_line.specs.scp_report
+pub use Rattle.scp_line.specs.scp_threaded_script
 pub use Rattle.scp_line
+pub use Rattle.scp_script_check.specs.scp_script_text
+pub use Rattle.scp_script_check
 pub mod Texts
 pub mod Disagreeing
 pub mod Lost

@@ -1,11 +1,11 @@
 -- Own statements that were replaced or dropped before they were sent (this project's profile).
 use Rattle.std.specs.Prelude.{ℕ, ◌-◌, Bool, ◌||◌, List, [], ◌∷◌, Option, Some, None, length, flat_map, nat_eq, slice_get, if◌then◌else◌}
 use Rattle.std.specs.List.{list_any}
-use Rattle.scp_turn.specs.Rounds.{link_of}
+use Rattle.scp_line.specs.scp_turn.specs.Rounds.{link_of}
 use Rattle.scp_line.specs.scp_report.specs.declared.report.LinkReport.{LinkReport}
 use Rattle.scp_line.specs.scp_report.specs.Report.{ReportView}
-use Rattle.scp_script.specs.declared.command.Command.{Command}
-use Rattle.scp_script.specs.Nodes.{numbers}
+use Rattle.scp_line.specs.scp_script.specs.declared.command.Command.{Command}
+use Rattle.scp_line.specs.scp_script.specs.Nodes.{numbers}
 use Rattle.scp_script_check.specs.Nodes.{sends_on, is_scripted_in}
 use Rattle.scp_notices.specs.declared.notice.Notice.{Notice}
 use Rattle.scp_notices.specs.declared.notice.Notice.TheVariants.{Overwritten}

@@ -1,7 +1,7 @@
 -- The notices that both ways to run a script have (this project's profile).
 use Rattle.std.specs.Prelude.{ℕ, List, ◌++◌, map}
 use Rattle.scp_line.specs.scp_report.specs.Report.{ReportView}
-use Rattle.scp_script.specs.declared.command.Command.{Command}
+use Rattle.scp_line.specs.scp_script.specs.declared.command.Command.{Command}
 use Rattle.scp_notices.specs.declared.commands.Told.{Told}
 use Rattle.scp_notices.specs.declared.notice.Notice.{Notice}
 use Rattle.scp_notices.specs.Disagreeing.{disagreements}

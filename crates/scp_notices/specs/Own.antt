@@ -1,11 +1,11 @@
 -- Whose fates a run reported (this project's profile).
 use Rattle.std.specs.Prelude.{ℕ, ◌+◌, ◌≡◌, List, ◌∷◌, ◌++◌, Some, slice_get}
-use Rattle.scp_ledger.specs.declared.took.CommandFate.{CommandFate}
-use Rattle.scp_turn.specs.Commands.{TakenCommand, fates_taken, AreInTurn}
-use Rattle.scp_core.specs.Kv.{NodeView}
-use Rattle.scp_turn.specs.Kv.{Does, taken_over}
-use Rattle.scp_turn.specs.Heard.{Heard, past_at}
-use Rattle.scp_script.specs.declared.command.Command.{Command}
+use Rattle.scp_line.specs.scp_ledger.specs.declared.took.CommandFate.{CommandFate}
+use Rattle.scp_line.specs.scp_turn.specs.Commands.{TakenCommand, fates_taken, AreInTurn}
+use Rattle.scp_line.specs.scp_core.specs.Kv.{NodeView}
+use Rattle.scp_line.specs.scp_turn.specs.Kv.{Does, taken_over}
+use Rattle.scp_line.specs.scp_turn.specs.Heard.{Heard, past_at}
+use Rattle.scp_line.specs.scp_script.specs.declared.command.Command.{Command}
 use Rattle.scp_line.specs.scp_threaded_script.specs.Lines.{local_by}
 use Rattle.scp_line.specs.Commands.{commands_to}
 use Rattle.scp_line.specs.Play.{IsNew}

@@ -1,10 +1,10 @@
 -- What a run of a script shows, and the notices of it (this project's profile).
 use Rattle.std.specs.Prelude.{ℕ, ◌≡◌, ◌≢◌, Bool, List, [], ◌∷◌, ◌++◌, Some, length, map, slice_get, if◌then◌else◌}
-use Rattle.scp_types.specs.declared.limits.TheConstants.{ROUND_LIMIT}
-use Rattle.scp_types.specs.declared.fault.Fault.TheVariants.{NoMemory as no_memory}
-use Rattle.scp_core.specs.Kv.{NodeView}
-use Rattle.scp_turn.specs.Network.{NetworkView}
-use Rattle.scp_script.specs.declared.command.Command.{Command}
+use Rattle.scp_line.specs.scp_types.specs.declared.limits.TheConstants.{ROUND_LIMIT}
+use Rattle.scp_line.specs.scp_types.specs.declared.fault.Fault.TheVariants.{NoMemory as no_memory}
+use Rattle.scp_line.specs.scp_core.specs.Kv.{NodeView}
+use Rattle.scp_line.specs.scp_turn.specs.Network.{NetworkView}
+use Rattle.scp_line.specs.scp_script.specs.declared.command.Command.{Command}
 use Rattle.scp_line.specs.declared.playing.PlayFault.{PlayFault}
 use Rattle.scp_line.specs.Nodes.{IsStoppedAt}
 use Rattle.scp_line.specs.Player.{Lining, IsRun}

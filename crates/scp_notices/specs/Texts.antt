@@ -1,7 +1,7 @@
 -- The lines that show notices (this project's profile).
 use Rattle.std.specs.Prelude.{ℕ, List, ◌++◌, codes, flat_map}
 use Rattle.std.specs.Fmt.{decimal}
-use Rattle.scp_words.specs.Words.{fate_word, hex_word, numbers_text}
+use Rattle.scp_line.specs.scp_words.specs.Words.{fate_word, hex_word, numbers_text}
 use Rattle.scp_notices.specs.declared.notice.Side.{Side}
 use Rattle.scp_notices.specs.declared.notice.Notice.{Notice}
 use Rattle.scp_notices.specs.declared.notice.Notice.TheVariants.{Unsettled, GaveUp, Disagree, Ignored, Overwritten, NoWait}

@@ -1,15 +1,15 @@
 -- The notices of a script whose nodes ran in threads (this project's profile).
 use Rattle.std.specs.Prelude.{ℕ, ◌+◌, ◌≡◌, ◌≢◌, Bool, true, false, List, [], ◌∷◌, ◌++◌, flat_map, length, map, option_to_list, slice_get, Some, if◌then◌else◌}
 use Rattle.std.specs.List.{list_any}
-use Rattle.scp_types.specs.declared.fault.Fault.TheVariants.{NoMemory as no_memory}
-use Rattle.scp_gather.specs.Kv.{NodeReport}
+use Rattle.scp_line.specs.scp_types.specs.declared.fault.Fault.TheVariants.{NoMemory as no_memory}
+use Rattle.scp_line.specs.scp_gather.specs.Kv.{NodeReport}
 use Rattle.scp_line.specs.scp_report.specs.Report.{ReportView}
 use Rattle.scp_line.specs.Left.{reports_left}
 use Rattle.scp_line.specs.scp_threaded_script.specs.Reported.{AreNodesReported, IsGivenUp}
 use Rattle.scp_line.specs.scp_threaded_script.specs.Waits.{AreWaits}
-use Rattle.scp_script.specs.declared.command.Command.{Command}
-use Rattle.scp_script.specs.declared.command.Command.TheVariants.{Wait}
-use Rattle.scp_script.specs.Script.{node_count}
+use Rattle.scp_line.specs.scp_script.specs.declared.command.Command.{Command}
+use Rattle.scp_line.specs.scp_script.specs.declared.command.Command.TheVariants.{Wait}
+use Rattle.scp_line.specs.scp_script.specs.Script.{node_count}
 use Rattle.scp_line.specs.declared.playing.PlayFault.{PlayFault}
 use Rattle.scp_line.specs.Commands.{HasFatesOfLines, taken_among}
 use Rattle.scp_script_check.specs.declared.reading.Script.{Script}

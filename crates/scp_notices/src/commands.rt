@@ -1,14 +1,14 @@
 //! What became of the commands of a script, line by line.
 ghost use Rattle.std.specs.Prelude.{◌≡◌, ◌<◌, ◌++◌, ◌∷◌, [], List, All, IfOk, OnOk, get_or, length};
-ghost use Rattle.scp_script.specs.Nodes.{NamesNodes};
-ghost use Rattle.scp_script.specs.declared.command.Command.{Command};
+ghost use Rattle.scp_line.specs.scp_script.specs.Nodes.{NamesNodes};
+ghost use Rattle.scp_line.specs.scp_script.specs.declared.command.Command.{Command};
 ghost use Rattle.scp_notices.specs.Ignoring.{teller, does_nothing, fates_at, fate_behind, ignored_by, ignored};
 ghost use Rattle.scp_notices.specs.inside.Queues.{AreQueues, TakesFrom, TakesAt};
 
 use crate::notice::Notice;
-use scp_core::CommandFate;
-use scp_script::Command;
-use scp_types::NODE_LIMIT;
+use scp_line::below::node::CommandFate;
+use scp_line::below::script::Command;
+use scp_line::below::types::NODE_LIMIT;
 use std::alloc::{AllocError, Global};
 
 /// What became of a command that the slot stage of the node of this number took.

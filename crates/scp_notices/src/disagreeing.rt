@@ -1,15 +1,15 @@
 //! The slots for which nodes applied different values.
 ghost use Rattle.std.specs.Prelude.{◌≡◌, ◌≤◌, ◌++◌, All, IfOk, OnOk, IsOkUnless, length, map};
 ghost use Rattle.std.specs.Option.{option_copied};
-ghost use Rattle.scp_types.specs.declared.limits.TheConstants.{NODE_LIMIT};
-ghost use Rattle.scp_apply.specs.Applied.{AreInOrder, value_of};
+ghost use Rattle.scp_line.specs.scp_types.specs.declared.limits.TheConstants.{NODE_LIMIT};
+ghost use Rattle.scp_line.specs.scp_apply.specs.Applied.{AreInOrder, value_of};
 ghost use Rattle.scp_notices.specs.Disagreeing.{choices_from, differ, nodes_with, side_of, sides_of, disagreement, disagreements, most_applied};
 ghost use Rattle.scp_notices.specs.inside.Choices.{choice_seen, values_seen, has_value, side_behind};
 ghost use Rattle.scp_notices.specs.inside.Seen.{applied_in};
 
 use crate::notice::{Notice, Numbers, Side, Sides};
 use scp_line::Report;
-use scp_types::{Fault, Value};
+use scp_line::below::types::{Fault, Value};
 use std::alloc::{AllocError, Global};
 
 /// What one of the nodes applied for a slot.

@@ -17,6 +17,7 @@
 //! answered.
 #![tactic(auto)]
 
+pub mod below;
 mod commands;
 mod disagreeing;
 mod lost;

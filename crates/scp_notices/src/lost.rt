@@ -1,16 +1,16 @@
 //! Own statements that were replaced or dropped before they were sent.
 ghost use Rattle.std.specs.Prelude.{◌≡◌, ◌≤◌, ◌++◌, ◌||◌, OnOk, length, map};
 ghost use Rattle.std.specs.List.{list_any};
-ghost use Rattle.scp_types.specs.declared.limits.TheConstants.{NODE_LIMIT};
+ghost use Rattle.scp_line.specs.scp_types.specs.declared.limits.TheConstants.{NODE_LIMIT};
 ghost use Rattle.scp_script_check.specs.Nodes.{sends_on as sends_it};
 ghost use Rattle.scp_notices.specs.Lost.{is_silent, lost_to, lost_on, lost_of, all_lost};
 ghost use Rattle.scp_notices.specs.inside.Seen.{lost_in};
 
 use crate::notice::Notice;
 use scp_line::Report;
-use scp_script::Command;
+use scp_line::below::script::Command;
+use scp_line::below::turn::link_of;
 use scp_script_check::is_scripted;
-use scp_turn::link_of;
 use std::alloc::AllocError;
 
 /// The number of own statements that a node lost for the peer of a link.

@@ -1,8 +1,8 @@
 //! The notices that both ways to run a script have, from the records of its nodes.
 ghost use Rattle.std.specs.Prelude.{◌≡◌, ◌≤◌, ◌++◌, All, OnOk, IsOkUnless, length, map};
-ghost use Rattle.scp_types.specs.declared.limits.TheConstants.{NODE_LIMIT};
-ghost use Rattle.scp_apply.specs.Applied.{AreInOrder};
-ghost use Rattle.scp_script.specs.Nodes.{NamesNodes};
+ghost use Rattle.scp_line.specs.scp_types.specs.declared.limits.TheConstants.{NODE_LIMIT};
+ghost use Rattle.scp_line.specs.scp_apply.specs.Applied.{AreInOrder};
+ghost use Rattle.scp_line.specs.scp_script.specs.Nodes.{NamesNodes};
 ghost use Rattle.scp_line.specs.scp_report.specs.Report.{view_of};
 ghost use Rattle.scp_notices.specs.Nodes.{nodes_notices};
 ghost use Rattle.scp_notices.specs.inside.Seen.{applied_in};
@@ -12,8 +12,8 @@ use crate::disagreeing::add_disagreements;
 use crate::lost::add_lost;
 use crate::notice::Notice;
 use scp_line::Report;
-use scp_script::Command;
-use scp_types::Fault;
+use scp_line::below::script::Command;
+use scp_line::below::types::Fault;
 
 /// Adds the notices of nodes with these records, whose slot stages reported this of their commands: lines whose commands did nothing, slots
 /// for which nodes applied different values, links whose own statements were lost.

@@ -1,7 +1,7 @@
 //! The notices of a script that was played.
 
-use scp_core::CommandFate;
-use scp_types::Value;
+use scp_line::below::node::CommandFate;
+use scp_line::below::types::Value;
 use std::marker::Model;
 
 /// Numbers of nodes, from 1 on. Contracts see the list.

@@ -1,30 +1,30 @@
 //! Playing a script, with notices of what would otherwise pass in silence.
 ghost use Rattle.std.specs.Prelude.{◌≡◌, ◌≢◌, ◌≤◌, ◌++◌, [], All, OnOk, IfOk, IfErr, IsOkUnless, length};
-ghost use Rattle.scp_types.specs.declared.limits.TheConstants.{NODE_LIMIT};
-ghost use Rattle.scp_apply.specs.Applied.{AreInOrder};
-ghost use Rattle.scp_script.specs.Script.{AreAdmitted};
-ghost use Rattle.scp_script.specs.Nodes.{NamesNodes};
+ghost use Rattle.scp_line.specs.scp_types.specs.declared.limits.TheConstants.{NODE_LIMIT};
+ghost use Rattle.scp_line.specs.scp_apply.specs.Applied.{AreInOrder};
+ghost use Rattle.scp_line.specs.scp_script.specs.Script.{AreAdmitted};
+ghost use Rattle.scp_line.specs.scp_script.specs.Nodes.{NamesNodes};
 ghost use Rattle.scp_line.specs.Headlines.{AreNodesHeadlined};
 ghost use Rattle.scp_line.specs.Nodes.{HaveRoom};
 ghost use Rattle.scp_line.specs.Player.{lining};
 ghost use Rattle.scp_line.specs.scp_report.specs.Node.{reports_of as records_of};
 ghost use Rattle.scp_notices.specs.Run.{unsettled, run_notices, IsRan, IsWatched, IsRunFault};
 ghost use Rattle.scp_notices.specs.inside.Playing.{stop_of, IsStop, ShowsBoth};
-ghost use Rattle.scp_script_check.specs.scp_device.specs.declared.bad.ReadFault.TheVariants as reads;
+ghost use Rattle.scp_line.specs.scp_device.specs.declared.bad.ReadFault.TheVariants as reads;
 ghost use Rattle.scp_notices.specs.declared.playing.RunFault.TheVariants.{Unread};
 
 use crate::commands::Told;
 use crate::nodes::add_nodes;
 use crate::notice::Notice;
 use crate::watch::CommandWatch;
-use scp_core::{KvDriver, each_node_holds_its_ledger};
+use scp_line::below::node::{KvDriver, each_node_holds_its_ledger};
+use scp_line::below::turn::Network;
+use scp_line::below::types::{Fault, ROUND_LIMIT};
 use scp_line::{
     Both, LineWatch, Nobody, PlayFault, a_script_has_room, each_fate_is_of_its_command,
     new_network, play_lines, reports_of, what_is_played_keeps_the_headlines,
 };
 use scp_script_check::{ReadFault, Script, read};
-use scp_turn::Network;
-use scp_types::{Fault, ROUND_LIMIT};
 use std::alloc::{AllocError, AllocFailed, Global};
 
 /// Why a script wasn't played to its end.

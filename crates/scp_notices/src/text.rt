@@ -4,7 +4,7 @@ ghost use Rattle.std.specs.Fmt.{decimal};
 ghost use Rattle.scp_notices.specs.Texts.{side_text, sides_text, lost_words, count_words, notice_text, notices_text};
 
 use crate::notice::{Notice, Side};
-use scp_words::{word_of_fate, write_hex, write_numbers};
+use scp_line::below::words::{word_of_fate, write_hex, write_numbers};
 use std::alloc::{AllocError, Global};
 
 /// Adds the numbers of nodes and the value that they applied, after a space.

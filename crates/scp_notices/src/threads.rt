@@ -1,10 +1,10 @@
 //! Playing a script in threads, with notices of what would otherwise pass in silence.
 ghost use Rattle.std.specs.Prelude.{◌≡◌, ◌≢◌, ◌≤◌, ◌++◌, [], All, OnOk, IfOk, IfErr, IsOkUnless, length, map};
 ghost use Rattle.std.specs.List.{list_any};
-ghost use Rattle.scp_types.specs.declared.limits.TheConstants.{NODE_LIMIT};
-ghost use Rattle.scp_apply.specs.Applied.{AreInOrder};
-ghost use Rattle.scp_script.specs.Script.{AreAdmitted, node_count};
-ghost use Rattle.scp_script.specs.Nodes.{NamesNodes};
+ghost use Rattle.scp_line.specs.scp_types.specs.declared.limits.TheConstants.{NODE_LIMIT};
+ghost use Rattle.scp_line.specs.scp_apply.specs.Applied.{AreInOrder};
+ghost use Rattle.scp_line.specs.scp_script.specs.Script.{AreAdmitted, node_count};
+ghost use Rattle.scp_line.specs.scp_script.specs.Nodes.{NamesNodes};
 ghost use Rattle.scp_line.specs.Headlines.{AreReportsHeadlined};
 ghost use Rattle.scp_line.specs.Nodes.{HaveRoom};
 ghost use Rattle.scp_line.specs.scp_report.specs.Report.{view_of};
@@ -18,15 +18,15 @@ use crate::commands::Told;
 use crate::nodes::add_nodes;
 use crate::notice::Notice;
 use crate::playing::RunFault;
-use scp_core::{CommandFate, KvDriver};
-use scp_gather::{NodeReport, what_is_reported_keeps_the_headline};
+use scp_line::below::gather::{NodeReport, what_is_reported_keeps_the_headline};
+use scp_line::below::node::{CommandFate, KvDriver};
+use scp_line::below::script::{Command, count_of_nodes};
+use scp_line::below::types::Fault;
 use scp_line::{
     PlayFault, Report, a_script_has_room, each_fate_is_of_its_command, reports_left,
     run_in_threads as play_in_threads, sets_of, what_is_played_keeps_the_headlines,
 };
-use scp_script::{Command, count_of_nodes};
 use scp_script_check::{ReadFault, Script, read};
-use scp_types::Fault;
 use std::alloc::{AllocError, Global};
 use std::sync::Wait;
 use std::thread::Threads;

@@ -3,10 +3,10 @@ ghost use Rattle.std.specs.Prelude.{◌≡◌, [], false};
 ghost use Rattle.scp_notices.specs.inside.Watching.{Adds, fates_told};
 
 use crate::commands::Told;
-use scp_core::{CommandFate, Event, KvDriver, Node, Reply};
 use scp_line::LineWatch;
-use scp_script::Command;
-use scp_turn::Watch;
+use scp_line::below::node::{CommandFate, Event, KvDriver, Node, Reply};
+use scp_line::below::script::Command;
+use scp_line::below::turn::Watch;
 use std::alloc::Global;
 use std::marker::Model;
 

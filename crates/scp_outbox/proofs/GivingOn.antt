@@ -4,7 +4,7 @@ use Rattle.std.specs.Prelude.{Option, Some, None, AllPairs, Contains}
 use Rattle.std.specs.List.{AllZip}
 use Rattle.std.proofs.lemmas.List.Elements.{All-push, All-tail}
 use Rattle.std.proofs.lemmas.List.Quantifiers.{all_pairs_push}
-use Rattle.scp_envelope.specs.declared.statement.Statement.{Statement}
+use Rattle.scp_wire.specs.scp_envelope.specs.declared.statement.Statement.{Statement}
 use Rattle.scp_wire.specs.Boxed.{Boxed}
 use Rattle.scp_wire.specs.Message.{message_value, SpellsMessage}
 use Rattle.scp_wire.specs.declared.message.Message.{Message}

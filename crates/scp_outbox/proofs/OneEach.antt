@@ -8,7 +8,7 @@ use Rattle.std.proofs.lemmas.List.{get_or-drop, get_or-set_other, length-drop, l
 use Rattle.std.proofs.lemmas.List.Sums.{fails_before_first}
 use Rattle.std.proofs.lemmas.List.Quantifiers.{all_pairs_push, position-Some}
 use Rattle.std.proofs.lemmas.Option.{get_or_from_slice_get}
-use Rattle.scp_envelope.specs.declared.statement.Statement.{Statement}
+use Rattle.scp_wire.specs.scp_envelope.specs.declared.statement.Statement.{Statement}
 use Rattle.scp_wire.specs.Boxed.{Boxed}
 use Rattle.scp_outbox.specs.Outbox.{is_nomination, same_bool, are_alike, AreOneEach, GoesLast, Replaces, Takes}
 

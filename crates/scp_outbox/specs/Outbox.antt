@@ -2,10 +2,10 @@
 use Rattle.std.specs.Prelude.{◌≡◌, ◌≤◌, ℕ, Bool, true, false, ◌&&◌, List, [], ◌∷◌, ◌++◌, length, Some, MatchOption, nat_eq, if◌then◌else◌, not, position, slice_get, slice_set, All, AllPairs, ◌⊎◌, ◌+◌, ◌-◌, ◌^◌, min}
 use Rattle.scp_outbox.specs.declared.outbox.TheConstants.{MARK_LIMIT, WAITING_LIMIT}
 pub use Rattle.circular_buffer.specs.Buffer.{keep_last}
-use Rattle.scp_envelope.specs.declared.statement.Pledges.{Pledges}
-use Rattle.scp_envelope.specs.declared.statement.Pledges.TheVariants.{Prepare, Confirm, Externalize, Nominate}
-use Rattle.scp_envelope.specs.declared.statement.Statement.{Statement}
-use Rattle.scp_envelope.specs.Newer.{IsNewer}
+use Rattle.scp_wire.specs.scp_envelope.specs.declared.statement.Pledges.{Pledges}
+use Rattle.scp_wire.specs.scp_envelope.specs.declared.statement.Pledges.TheVariants.{Prepare, Confirm, Externalize, Nominate}
+use Rattle.scp_wire.specs.scp_envelope.specs.declared.statement.Statement.{Statement}
+use Rattle.scp_wire.specs.scp_envelope.specs.Newer.{IsNewer}
 use Rattle.scp_wire.specs.Boxed.{Boxed}
 use Rattle.scp_wire.specs.declared.message.Message.{Message}
 use Rattle.scp_wire.specs.declared.message.Message.TheVariants.{Envelope, GetSet, Set, NoSet, GetRecord, Record, Records}

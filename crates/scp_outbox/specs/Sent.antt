@@ -1,8 +1,8 @@
 -- What was sent to the peer of one link (this project's profile).
 use Rattle.std.specs.Prelude.{◌≡◌, ℕ, true, List, Option, Some, None, All, AllPairs, Contains}
 use Rattle.std.specs.List.{AllZip}
-use Rattle.scp_envelope.specs.declared.statement.Statement.{Statement}
-use Rattle.scp_envelope.specs.Newer.{IsNewer}
+use Rattle.scp_wire.specs.scp_envelope.specs.declared.statement.Statement.{Statement}
+use Rattle.scp_wire.specs.scp_envelope.specs.Newer.{IsNewer}
 use Rattle.scp_wire.specs.Message.{message_value, SpellsMessage}
 use Rattle.scp_wire.specs.declared.message.Message.{Message}
 use Rattle.scp_wire.specs.declared.message.Message.TheVariants.{Envelope, GetSet, Set, NoSet, GetRecord, Record, Records}

@@ -18,6 +18,7 @@
 //! Not claimed: that what waits is ever sent. An outbox that threads share is in `scp_shared_outbox`.
 #![tactic(auto)]
 
+pub mod below;
 mod laws;
 mod mark;
 mod outbox;

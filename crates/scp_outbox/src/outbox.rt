@@ -1,6 +1,6 @@
 //! What waits for one peer.
 ghost use Rattle.std.specs.Prelude.{◌≡◌, ◌≢◌, ◌∷◌, ◌++◌, [], ◌<◌, ◌↔◌, ◌==◌, ◌≤◌, length, IfOk, OnOk, OnErr, IsOk, IsTrue, IsOkUnless, Ok, Err, position, Some, None, slice_get, slice_set, MatchOption, false, ◌+◌};
-ghost use Rattle.scp_envelope.specs.Newer.{IsNewer};
+ghost use Rattle.scp_wire.specs.scp_envelope.specs.Newer.{IsNewer};
 ghost use Rattle.scp_wire.specs.Boxed.{Boxed};
 ghost use Rattle.scp_outbox.specs.Outbox.{are_alike, is_nomination as is_nominating, live_after, Puts, Gives, IsOutbox, GoesLast, Takes, Replaces, StatementsTake, IfMessage};
 ghost use Rattle.scp_outbox.specs.inside.Statements.{is_statement};
@@ -8,8 +8,8 @@ ghost use Rattle.scp_wire.specs.Fitting.{IsFitting};
 
 use crate::mark::{Mark, Out};
 use circular_buffer::HeapCircularBuffer;
-use scp_envelope::{Pledges, Statement, newer};
-use scp_types::Fault;
+use scp_wire::below::envelope::{Pledges, Statement, newer};
+use scp_wire::below::types::Fault;
 use scp_wire::{BoxedEnvelope, FittingMessage, Message};
 use std::alloc::Global;
 use std::marker::Model;
@@ -37,8 +37,8 @@ impl Model for Outbox {
     ghost Value = { OutboxView };
 
     ghost use Rattle.std.specs.Coded.{codes};
-    ghost use Rattle.scp_xdr.specs.inside.TreeModel.{coded_row};
-    ghost use Rattle.scp_quorum.specs.inside.QuorumTree.{coded_level};
+    ghost use Rattle.scp_wire.specs.scp_xdr.specs.inside.TreeModel.{coded_row};
+    ghost use Rattle.scp_wire.specs.scp_quorum.specs.inside.QuorumTree.{coded_level};
 
     ghost coded = { Prim.hlevel (codes, coded_row coded_level) };
 

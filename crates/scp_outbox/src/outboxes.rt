@@ -6,7 +6,7 @@ ghost use Rattle.scp_outbox.specs.Handing.{empty_outbox, HandsOut, to_link, to_e
 ghost use Rattle.scp_outbox.specs.inside.Putting.{PutsAt};
 
 use crate::{Out, Outbox};
-use scp_types::Fault;
+use scp_wire::below::types::Fault;
 use scp_wire::{FittingMessage, Message};
 use std::alloc::Global;
 use std::marker::Model;
@@ -23,8 +23,8 @@ impl Model for LiveOutbox {
     ghost Value = { OutboxView };
 
     ghost use Rattle.std.specs.Coded.{codes};
-    ghost use Rattle.scp_xdr.specs.inside.TreeModel.{coded_row};
-    ghost use Rattle.scp_quorum.specs.inside.QuorumTree.{coded_level};
+    ghost use Rattle.scp_wire.specs.scp_xdr.specs.inside.TreeModel.{coded_row};
+    ghost use Rattle.scp_wire.specs.scp_quorum.specs.inside.QuorumTree.{coded_level};
 
     ghost coded = { Prim.hlevel (codes, coded_row coded_level) };
 
@@ -75,8 +75,8 @@ impl Model for Outboxes {
     ghost Value = { List OutboxView };
 
     ghost use Rattle.std.specs.Coded.{codes};
-    ghost use Rattle.scp_xdr.specs.inside.TreeModel.{coded_row};
-    ghost use Rattle.scp_quorum.specs.inside.QuorumTree.{coded_level};
+    ghost use Rattle.scp_wire.specs.scp_xdr.specs.inside.TreeModel.{coded_row};
+    ghost use Rattle.scp_wire.specs.scp_quorum.specs.inside.QuorumTree.{coded_level};
 
     ghost coded = { Prim.hlevel (codes, coded_row coded_level) };
 

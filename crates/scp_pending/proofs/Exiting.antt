@@ -7,10 +7,10 @@ use Rattle.std.specs.List.{range_with_len}
 use Rattle.std.specs.List.Sorted.{IsPermutation}
 use Rattle.std.proofs.lemmas.List.{length-append, length-map}
 use Rattle.std.proofs.lemmas.List.Sorted.{IsPermutation-append_left}
-use Rattle.scp_types.specs.declared.names.ConnId.{ConnId}
-use Rattle.scp_types.specs.declared.names.Hash.{Hash}
-use Rattle.scp_types.specs.declared.names.Seq.{Seq}
-use Rattle.scp_quorum.specs.QuorumTree.{QuorumTree}
+use Rattle.scp_wire.specs.scp_types.specs.declared.names.ConnId.{ConnId}
+use Rattle.scp_wire.specs.scp_types.specs.declared.names.Hash.{Hash}
+use Rattle.scp_wire.specs.scp_types.specs.declared.names.Seq.{Seq}
+use Rattle.scp_wire.specs.scp_quorum.specs.QuorumTree.{QuorumTree}
 use Rattle.scp_wire.specs.declared.carried.Carried.{Carried}
 use Rattle.scp_wire.specs.declared.side.SideMessage.{SideMessage}
 use Rattle.scp_wire.specs.declared.side.SideMessage.TheVariants.{GetSet, Set, NoSet}

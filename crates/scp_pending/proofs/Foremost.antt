@@ -1,6 +1,6 @@
 -- The first of what is parked that waits.
 use Rattle.std.proofs.Common.{◌≡◌, [], List, ◌∷◌, length, Some, None, refl, arith}
-use Rattle.scp_types.specs.declared.names.Hash.{Hash}
+use Rattle.scp_wire.specs.scp_types.specs.declared.names.Hash.{Hash}
 use Rattle.scp_pending.specs.declared.parked.Parked.{Parked}
 use Rattle.scp_pending.specs.Queues.{first_waiting, waited_by, seq_of}
 

@@ -1,8 +1,8 @@
 -- What a step of the code's loops does.
 use Rattle.std.proofs.Common.{◌≡◌, Bool, true, false, cond, not, List, [], ◌∷◌, ◌++◌, refl, sym, ◌∙◌, ap, map, append_assoc}
 use Rattle.std.specs.Prelude.{filter}
-use Rattle.scp_types.specs.declared.names.ConnId.{ConnId}
-use Rattle.scp_types.specs.declared.names.Hash.{Hash}
+use Rattle.scp_wire.specs.scp_types.specs.declared.names.ConnId.{ConnId}
+use Rattle.scp_wire.specs.scp_types.specs.declared.names.Hash.{Hash}
 use Rattle.scp_pending.specs.declared.parked.Parked.{Parked}
 use Rattle.scp_pending.specs.Queues.{QueueView, stays_in, leaves_in, leaving_of, is_held, fate, leaves_behind, stays_behind, is_head_waiting, with_first, in_order_of}
 use Rattle.scp_pending.proofs.Basics.{append_nil, flat-append}

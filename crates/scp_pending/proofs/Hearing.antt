@@ -3,11 +3,11 @@ use Rattle.std.proofs.Common.{◌≡◌, ℕ, Bool, true, false, List, ◌++◌,
 use Rattle.std.specs.List.{list_any}
 use Rattle.scp_wire.specs.Lanes.{slot_of}
 use Rattle.std.specs.Prelude.{◌&&◌, ◌||◌, Option, Some, None}
-use Rattle.scp_types.specs.declared.names.Hash.{Hash}
-use Rattle.scp_quorum.specs.QuorumTree.{QuorumTree}
-use Rattle.scp_quorum.specs.QuorumKind.{set_hash, set_kind, set_value}
-use Rattle.scp_quorum.specs.Sane.{IsSane}
-use Rattle.scp_xdr.specs.Kind.{Fits}
+use Rattle.scp_wire.specs.scp_types.specs.declared.names.Hash.{Hash}
+use Rattle.scp_wire.specs.scp_quorum.specs.QuorumTree.{QuorumTree}
+use Rattle.scp_wire.specs.scp_quorum.specs.QuorumKind.{set_hash, set_kind, set_value}
+use Rattle.scp_wire.specs.scp_quorum.specs.Sane.{IsSane}
+use Rattle.scp_wire.specs.scp_xdr.specs.Kind.{Fits}
 use Rattle.scp_wire.specs.declared.carried.Carried.{Carried}
 use Rattle.scp_wire.specs.declared.link.Command.TheVariants.{Tick}
 use Rattle.scp_wire.specs.declared.link.Inbound.{Inbound}

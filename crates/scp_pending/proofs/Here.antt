@@ -1,6 +1,6 @@
 -- The pending stage, of the node and the peers that it was made for.
 use Rattle.std.proofs.Common.{List, [], ◌++◌, sym, subst}
-use Rattle.scp_types.specs.declared.names.NodeId.{NodeId}
+use Rattle.scp_wire.specs.scp_types.specs.declared.names.NodeId.{NodeId}
 use Rattle.scp_wire.specs.declared.link.Inbound.{Inbound}
 use Rattle.scp_pending.specs.declared.ready.Ready.{Ready}
 use Rattle.scp_pending.specs.Pends.{Pends, PendsHere, HereFromNothing, HerePasses}

@@ -1,10 +1,10 @@
 -- One item more, and what was said of places before.
 use Rattle.std.proofs.Common.{◌≡◌, ℕ, Bool, true, false, List, [], ◌∷◌, ◌++◌, refl, sym, ◌∙◌, ap, append_assoc, inl, inr}
 use Rattle.std.specs.Prelude.{◌||◌, Option, Some, None}
-use Rattle.scp_types.specs.declared.names.ConnId.{ConnId}
-use Rattle.scp_types.specs.declared.names.Hash.{Hash}
-use Rattle.scp_types.specs.declared.names.Seq.{Seq}
-use Rattle.scp_quorum.specs.QuorumTree.{QuorumTree}
+use Rattle.scp_wire.specs.scp_types.specs.declared.names.ConnId.{ConnId}
+use Rattle.scp_wire.specs.scp_types.specs.declared.names.Hash.{Hash}
+use Rattle.scp_wire.specs.scp_types.specs.declared.names.Seq.{Seq}
+use Rattle.scp_wire.specs.scp_quorum.specs.QuorumTree.{QuorumTree}
 use Rattle.scp_wire.specs.declared.carried.Carried.{Carried}
 use Rattle.scp_wire.specs.declared.side.SideMessage.TheVariants.{Set}
 use Rattle.scp_wire.specs.declared.link.Inbound.{Inbound}

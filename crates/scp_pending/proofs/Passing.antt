@@ -1,8 +1,8 @@
 -- What a call keeps, and what follows for every list of takes.
 use Rattle.std.proofs.Common.{◌≡◌, ℕ, true, false, List, [], ◌∷◌, ◌++◌, refl, sym, ◌∙◌, ap, subst, append_assoc}
 use Rattle.std.specs.Prelude.{◌↔◌, Option, Some, None, IfNone, option_to_list}
-use Rattle.scp_types.specs.declared.names.NodeId.{NodeId}
-use Rattle.scp_quorum.specs.QuorumTree.{QuorumTree}
+use Rattle.scp_wire.specs.scp_types.specs.declared.names.NodeId.{NodeId}
+use Rattle.scp_wire.specs.scp_quorum.specs.QuorumTree.{QuorumTree}
 use Rattle.scp_wire.specs.declared.link.Inbound.{Inbound}
 use Rattle.scp_pending.specs.declared.ready.Ready.{Ready}
 use Rattle.scp_pending.specs.Queues.{QueueView, at_slot}

@@ -6,9 +6,9 @@ use Rattle.std.specs.List.Sorted.{IsPermutation}
 use Rattle.std.proofs.lemmas.Bool.{eqb-true, eqb-false}
 use Rattle.std.proofs.lemmas.List.FromFn.{map-range_with_len_more}
 use Rattle.std.proofs.lemmas.List.Sorted.{IsPermutation-refl, IsPermutation-trans, IsPermutation-sym, IsPermutation-cons, IsPermutation-middle}
-use Rattle.scp_types.specs.declared.names.ConnId.{ConnId}
-use Rattle.scp_types.specs.declared.names.NodeId.{NodeId}
-use Rattle.scp_types.specs.declared.names.Seq.{Seq}
+use Rattle.scp_wire.specs.scp_types.specs.declared.names.ConnId.{ConnId}
+use Rattle.scp_wire.specs.scp_types.specs.declared.names.NodeId.{NodeId}
+use Rattle.scp_wire.specs.scp_types.specs.declared.names.Seq.{Seq}
 use Rattle.scp_wire.specs.declared.link.Cause.{Cause}
 use Rattle.scp_wire.specs.declared.link.Inbound.{Inbound}
 use Rattle.scp_wire.specs.declared.link.Inbound.TheVariants as inbound

@@ -1,9 +1,9 @@
 -- The tests of sanity and of encoding decide exactly that.
 use Rattle.std.specs.Prelude.{◌≡◌, ◌↔◌, refl, true}
-use Rattle.scp_xdr.specs.Kind.{Fits}
-use Rattle.scp_quorum.specs.QuorumTree.{QuorumTree}
-use Rattle.scp_quorum.specs.QuorumKind.{set_kind, set_value}
-use Rattle.scp_quorum.specs.Sane.{IsSane}
+use Rattle.scp_wire.specs.scp_xdr.specs.Kind.{Fits}
+use Rattle.scp_wire.specs.scp_quorum.specs.QuorumTree.{QuorumTree}
+use Rattle.scp_wire.specs.scp_quorum.specs.QuorumKind.{set_kind, set_value}
+use Rattle.scp_wire.specs.scp_quorum.specs.Sane.{IsSane}
 use Rattle.scp_pending.specs.Sanity.{is_yes, is_sane, sane_or_not, has_spelling, spelt_or_not, SanityIsTold, SpellingIsTold}
 
 yes_is : {A : Type 0} (d : Dec A) → is_yes d ≡ true → A

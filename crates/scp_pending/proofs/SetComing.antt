@@ -1,11 +1,11 @@
 -- What becomes of a quorum set that came.
 use Rattle.std.proofs.Common.{◌≡◌, Bool, true, false, refl, subst}
 use Rattle.std.specs.Prelude.{◌&&◌}
-use Rattle.scp_types.specs.declared.names.Hash.{Hash}
-use Rattle.scp_quorum.specs.QuorumTree.{QuorumTree}
-use Rattle.scp_quorum.specs.QuorumKind.{set_hash, set_kind, set_value}
-use Rattle.scp_quorum.specs.Sane.{IsSane}
-use Rattle.scp_xdr.specs.Kind.{Fits}
+use Rattle.scp_wire.specs.scp_types.specs.declared.names.Hash.{Hash}
+use Rattle.scp_wire.specs.scp_quorum.specs.QuorumTree.{QuorumTree}
+use Rattle.scp_wire.specs.scp_quorum.specs.QuorumKind.{set_hash, set_kind, set_value}
+use Rattle.scp_wire.specs.scp_quorum.specs.Sane.{IsSane}
+use Rattle.scp_wire.specs.scp_xdr.specs.Kind.{Fits}
 use Rattle.scp_fetch.specs.Wants.{is_wanted}
 use Rattle.scp_pending.specs.declared.becoming.Becoming.{Becoming}
 use Rattle.scp_pending.specs.declared.becoming.Becoming.TheVariants.{Stored, BadSet, Unwanted}

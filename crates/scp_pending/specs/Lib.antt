@@ -1,3 +1,5 @@
+pub use Rattle.scp_wire
+pub use Rattle.scp_fetch
 pub mod Sanity
 pub mod Delivery
 pub mod Queues

@@ -1,6 +1,6 @@
 -- The peers of a node, by the places of their links.
 use Rattle.std.specs.Prelude.{ℕ, ◌≡◌, List, Some, slice_get}
-use Rattle.scp_types.specs.declared.names.NodeId.{NodeId}
+use Rattle.scp_wire.specs.scp_types.specs.declared.names.NodeId.{NodeId}
 
 -- no peer is there twice
 abbrev pub AreApart : List NodeId → Type 0

@@ -1,7 +1,7 @@
 -- What holds of what the pending stage took, what it gave, and what it holds.
 use Rattle.std.specs.Prelude.{◌≡◌, false, List, [], ◌++◌}
-use Rattle.scp_types.specs.declared.names.NodeId.{NodeId}
-use Rattle.scp_quorum.specs.Sane.{IsSane}
+use Rattle.scp_wire.specs.scp_types.specs.declared.names.NodeId.{NodeId}
+use Rattle.scp_wire.specs.scp_quorum.specs.Sane.{IsSane}
 use Rattle.scp_wire.specs.declared.link.Inbound.{Inbound}
 use Rattle.scp_pending.specs.declared.ready.Ready.{Ready}
 use Rattle.scp_pending.specs.Rules.{PendingView, Settled, fresh, settled_by, released_by}

@@ -5,12 +5,12 @@ use Rattle.std.proofs.Common.{inl, inr}
 use Rattle.std.proofs.Math.Decide.{dec_le, dec_lt, map_dec}
 use Rattle.std.specs.List.{AllByRecursion, IsDistinct}
 use Rattle.std.specs.Ordering.{eq_by_cmp}
-use Rattle.scp_xdr.specs.Tree.{Trees, no_trees, tree_then, row_len}
-use Rattle.scp_xdr.specs.Kind.{Kind, uint32, uint64, fixed, opaque, optional, array, numbered, both, union, tree, Arms, no_arm, arm, Values, ArmValues, Fits, ArmFits, tag_of, RowFits, limit_at}
-use Rattle.scp_quorum.specs.NodeSet.{node_cmp}
-use Rattle.scp_quorum.specs.QuorumTree.{Level, QuorumTree}
-use Rattle.scp_quorum.specs.QuorumKind.{set_kind, set_value, set_spelling}
-use Rattle.scp_quorum.specs.Sane.{IsSane, IsInRange, AreInRange, all_nodes, levels}
+use Rattle.scp_wire.specs.scp_xdr.specs.Tree.{Trees, no_trees, tree_then, row_len}
+use Rattle.scp_wire.specs.scp_xdr.specs.Kind.{Kind, uint32, uint64, fixed, opaque, optional, array, numbered, both, union, tree, Arms, no_arm, arm, Values, ArmValues, Fits, ArmFits, tag_of, RowFits, limit_at}
+use Rattle.scp_wire.specs.scp_quorum.specs.NodeSet.{node_cmp}
+use Rattle.scp_wire.specs.scp_quorum.specs.QuorumTree.{Level, QuorumTree}
+use Rattle.scp_wire.specs.scp_quorum.specs.QuorumKind.{set_kind, set_value, set_spelling}
+use Rattle.scp_wire.specs.scp_quorum.specs.Sane.{IsSane, IsInRange, AreInRange, all_nodes, levels}
 
 -- if each of two facts can be decided, so can both together
 decide_both : {A B : Type 0} → Dec A → Dec B → Dec (A × B)

@@ -16,6 +16,7 @@
 #![tactic(auto)]
 
 mod becoming;
+pub mod below;
 mod laws;
 mod parked;
 mod pending;

@@ -1,7 +1,7 @@
 //! A parked message.
 ghost use Rattle.std.specs.Prelude.{◌≡◌, ◌∷◌, [], IfOk, IsOkUnless, IfSome, Some, None, true, option_map};
 ghost use Rattle.scp_pending.specs.Rules.{is_given_up};
-ghost use Rattle.scp_quorum.specs.QuorumKind.{set_hash};
+ghost use Rattle.scp_wire.specs.scp_quorum.specs.QuorumKind.{set_hash};
 ghost use Rattle.scp_pending.specs.Queues.{named as named_by, hash_of, is_hash, waits_for as waits, waited_by, waits as is_waiting_one, lane_of, is_at, seq_of, resolved_one, lost_by, with_set};
 ghost use Rattle.scp_wire.specs.Lanes.{slot_of};
 ghost use Rattle.scp_pending.specs.Messages.{IsParkedAs};
@@ -9,8 +9,8 @@ ghost use Rattle.scp_pending.specs.inside.Outcome.{outcome_of, HasHash};
 
 use crate::ready::{Delivery, DropCause};
 use scp_fetch::Fetcher;
-use scp_quorum::SaneSet;
-use scp_types::{ConnId, Fault, Hash, NodeId, Seq, Slot};
+use scp_wire::below::quorum::SaneSet;
+use scp_wire::below::types::{ConnId, Fault, Hash, NodeId, Seq, Slot};
 use scp_wire::{Carried, FittingMessage, Message};
 use std::sync::Arc;
 

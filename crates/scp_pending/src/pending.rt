@@ -1,6 +1,6 @@
 //! The pending stage.
 ghost use Rattle.std.specs.Prelude.{ℕ, ◌≡◌, ◌≤◌, ◌<◌, ◌^◌, ◌++◌, ◌∷◌, [], ◌↔◌, List, IfOk, OnOk, OnErr, IsOkUnless, IfNone, Err, IfSome, None, Some, true, false, length, map, filter, flat_map, option_to_list, position, remove, take, drop, count_by, is_some, slice_get};
-ghost use Rattle.scp_types.specs.declared.names.NodeId.{NodeId};
+ghost use Rattle.scp_wire.specs.scp_types.specs.declared.names.NodeId.{NodeId};
 ghost use Rattle.scp_wire.specs.declared.link.Inbound.{Inbound};
 ghost use Rattle.scp_fetch.specs.Store.{lookup};
 ghost use Rattle.scp_fetch.specs.Wants.{waiting_for, gives_up, without};
@@ -8,7 +8,7 @@ ghost use Rattle.scp_fetch.specs.declared.want.Miss.{Miss};
 ghost use Rattle.scp_pending.specs.Queues.{is_of, is_open, parked_of, others, changed, with_parked, parked_in, served, leaving_of, resolved, lost_by, dropped, is_hash, is_link_open, stays_in, leaves_in, is_held, fate, waits, first_waiting as first_that_waits};
 ghost use Rattle.scp_pending.specs.Rules.{PendingView, Settled, fresh, rules, releases, reply, taken_in, entering as entering_with, link_number, opens, opened, closed_off, asks, brings, brought, enters, goes_through, overflows, parks, hears, heard_out, replies, answer as answer_for, is_full, wanted_with, asks_named, wanted_named};
 ghost use Rattle.scp_pending.specs.inside.Outcome.{outcome_of, HasHash, IsPlace};
-ghost use Rattle.scp_quorum.specs.Sane.{IsSane};
+ghost use Rattle.scp_wire.specs.scp_quorum.specs.Sane.{IsSane};
 ghost use Rattle.scp_wire.specs.Fitting.{IsFitting};
 ghost use Rattle.scp_wire.specs.Connections.{same_node};
 ghost use Rattle.scp_pending.specs.Line.{is_message_of, count_held};
@@ -31,8 +31,8 @@ use crate::queue::{
 };
 use crate::ready::{Delivery, DropCause, Ready};
 use scp_fetch::{Fetcher, SetStore, Want};
-use scp_quorum::{QuorumSet, SaneSet};
-use scp_types::{ConnId, Fault, Hash, LINK_LIMIT, NodeId, Seq};
+use scp_wire::below::quorum::{QuorumSet, SaneSet};
+use scp_wire::below::types::{ConnId, Fault, Hash, LINK_LIMIT, NodeId, Seq};
 use scp_wire::{Carried, Cause, Command, Inbound, Message, SideMessage, what_fits_a_link};
 use std::alloc::{AllocError, Global};
 use std::collections::VecDeque;
@@ -53,8 +53,8 @@ pub struct Pending {
 impl Model for Pending {
     ghost use Rattle.std.specs.Prelude.{◌≡◌, false};
     ghost use Rattle.std.specs.Coded.{codes};
-    ghost use Rattle.scp_xdr.specs.inside.TreeModel.{coded_row};
-    ghost use Rattle.scp_quorum.specs.inside.QuorumTree.{coded_level};
+    ghost use Rattle.scp_wire.specs.scp_xdr.specs.inside.TreeModel.{coded_row};
+    ghost use Rattle.scp_wire.specs.scp_quorum.specs.inside.QuorumTree.{coded_level};
     ghost use Rattle.scp_pending.specs.Rules.{PendingView};
     ghost use Rattle.scp_pending.specs.inside.Kept.{IsKept};
 
@@ -81,10 +81,10 @@ struct Parking {
 
 impl Model for Parking {
     ghost use Rattle.std.specs.Prelude.{◌≤◌, length, false};
-    ghost use Rattle.scp_types.specs.declared.limits.TheConstants.{LINK_LIMIT};
+    ghost use Rattle.scp_wire.specs.scp_types.specs.declared.limits.TheConstants.{LINK_LIMIT};
     ghost use Rattle.std.specs.Coded.{codes};
-    ghost use Rattle.scp_xdr.specs.inside.TreeModel.{coded_row};
-    ghost use Rattle.scp_quorum.specs.inside.QuorumTree.{coded_level};
+    ghost use Rattle.scp_wire.specs.scp_xdr.specs.inside.TreeModel.{coded_row};
+    ghost use Rattle.scp_wire.specs.scp_quorum.specs.inside.QuorumTree.{coded_level};
     ghost use Rattle.scp_pending.specs.Rules.{PendingView};
 
     ghost Value = { PendingView };

@@ -6,8 +6,8 @@ ghost use Rattle.scp_fetch.specs.Wants.{last_missed, has_conn, waiting_for};
 ghost use Rattle.scp_pending.specs.Queues.{is_of, is_open, is_link_open as link_open, parked_of, others, parked_in, resolved, served, leaving_of, is_hash, is_empty as none_parked, is_at, is_held, fate, leaves_of, stays_of, stays_in, leaves_in, is_head_waiting as has_waiting_head, with_first, in_order_of, resolved_one, resolved_in, dropped, lost_by, with_parked, first_waiting as first_that_waits};
 ghost use Rattle.scp_pending.specs.Rules.{is_given_up};
 ghost use Rattle.std.specs.List.Sorted.{IsPermutation, IsSortedByKey};
-ghost use Rattle.scp_types.specs.Order.{conn_cmp};
-ghost use Rattle.scp_types.specs.declared.names.ConnId.{ConnId};
+ghost use Rattle.scp_wire.specs.scp_types.specs.Order.{conn_cmp};
+ghost use Rattle.scp_wire.specs.scp_types.specs.declared.names.ConnId.{ConnId};
 ghost use Rattle.scp_pending.specs.inside.Outcome.{outcome_of, HasHash, IsPlace, Adds, parked_in_all};
 ghost use Rattle.scp_pending.specs.inside.Kept.{IsKept, IsQuiet};
 ghost use Rattle.scp_pending.specs.declared.parked.Parked.{Parked};
@@ -15,8 +15,8 @@ ghost use Rattle.scp_pending.specs.declared.parked.Parked.{Parked};
 use crate::parked::{Outcome, Parked, named};
 use crate::ready::{DropCause, Ready};
 use scp_fetch::Fetcher;
-use scp_types::{ConnId, Fault, Hash, NodeId, Seq, Slot};
 use scp_wire::Carried;
+use scp_wire::below::types::{ConnId, Fault, Hash, NodeId, Seq, Slot};
 use std::alloc::Global;
 use std::collections::VecDeque;
 use std::marker::Model;
@@ -31,8 +31,8 @@ pub(crate) struct Queue {
 
 impl Model for Queue {
     ghost use Rattle.std.specs.Coded.{codes};
-    ghost use Rattle.scp_xdr.specs.inside.TreeModel.{coded_row};
-    ghost use Rattle.scp_quorum.specs.inside.QuorumTree.{coded_level};
+    ghost use Rattle.scp_wire.specs.scp_xdr.specs.inside.TreeModel.{coded_row};
+    ghost use Rattle.scp_wire.specs.scp_quorum.specs.inside.QuorumTree.{coded_level};
     ghost use Rattle.scp_pending.specs.Queues.{QueueView};
 
     ghost Value = { QueueView };

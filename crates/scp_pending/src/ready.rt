@@ -6,8 +6,8 @@ ghost use Rattle.scp_wire.specs.Sets.{IsSetOf};
 ghost use Rattle.scp_pending.specs.Queues.{named, hash_of};
 ghost use Rattle.scp_pending.specs.Line.{is_message_of as is_it};
 
-use scp_quorum::SaneSet;
-use scp_types::{ConnId, Seq};
+use scp_wire::below::quorum::SaneSet;
+use scp_wire::below::types::{ConnId, Seq};
 use scp_wire::{Carried, Cause, Command, FittingMessage, Message};
 use std::marker::Model;
 use std::sync::Arc;
@@ -38,8 +38,8 @@ pub struct Delivery {
 impl Model for Delivery {
     ghost use Rattle.std.specs.Prelude.{◌≡◌, option_map, true};
     ghost use Rattle.std.specs.Coded.{codes};
-    ghost use Rattle.scp_xdr.specs.inside.TreeModel.{coded_row};
-    ghost use Rattle.scp_quorum.specs.inside.QuorumTree.{coded_level};
+    ghost use Rattle.scp_wire.specs.scp_xdr.specs.inside.TreeModel.{coded_row};
+    ghost use Rattle.scp_wire.specs.scp_quorum.specs.inside.QuorumTree.{coded_level};
     ghost use Rattle.scp_wire.specs.Carried.{is_carried};
     ghost use Rattle.scp_wire.specs.Sets.{IsSetOf};
     ghost use Rattle.scp_pending.specs.Delivery.{DeliveryView};

@@ -3,7 +3,7 @@ use Rattle.std.proofs.Common.{◌≡◌, ◌≢◌, ◌==◌, ℕ, zero, suc, �
 use Rattle.std.proofs.lemmas.List.{drop_all, take_all}
 use Rattle.std.specs.Prelude.{Result, Ok, Err, OnOk}
 use Rattle.std.specs.List.{slice_get, slice_split}
-use Rattle.scp_types.specs.declared.fault.Fault.{Fault}
+use Rattle.scp_device.specs.scp_types.specs.declared.fault.Fault.{Fault}
 use Rattle.scp_device.specs.Device.{Gains}
 use Rattle.scp_prompt.specs.Places.{part_in, IsStanding, place_line}
 use Rattle.scp_prompt.proofs.DeviceLemmas.{gains-more}

@@ -1,11 +1,11 @@
 -- How a failure is reported: its exit status, its line in the fixed form, and its line for people (this project's profile).
 use Rattle.std.specs.Prelude.{ℕ, ◌≡◌, List, [], ◌++◌, Option, Some, None, codes}
 use Rattle.std.specs.Fmt.{decimal}
-use Rattle.scp_types.specs.declared.fault.Fault.{Fault}
-use Rattle.scp_types.specs.declared.fault.Fault.TheVariants as faults
-use Rattle.scp_types.specs.declared.fault.Stage.{Stage}
-use Rattle.scp_types.specs.declared.fault.Stage.TheVariants.{Reader, Pend, Slot, Apply}
-use Rattle.scp_types.specs.Fault as fault-numbers
+use Rattle.scp_device.specs.scp_types.specs.declared.fault.Fault.{Fault}
+use Rattle.scp_device.specs.scp_types.specs.declared.fault.Fault.TheVariants as faults
+use Rattle.scp_device.specs.scp_types.specs.declared.fault.Stage.{Stage}
+use Rattle.scp_device.specs.scp_types.specs.declared.fault.Stage.TheVariants.{Reader, Pend, Slot, Apply}
+use Rattle.scp_device.specs.scp_types.specs.Fault as fault-numbers
 use Rattle.scp_device.specs.Expected.{expected_text}
 use Rattle.scp_prompt.specs.declared.failure.Failure.{Failure}
 use Rattle.scp_prompt.specs.declared.failure.Failure.TheVariants.{Word, Line, TooLong, Stopped, NoMemory, Unread, Unwritten}

@@ -1,6 +1,8 @@
 //! What the words of a command line ask for.
 
-use crate::commands::command_line;
+use crate::commands::parsed;
+use crate::completions::{Shell, completions};
+use crate::manual::manual;
 use clap::error::ErrorKind;
 use clap::{ArgMatches, Error};
 use scp_sim_options::{BadOption, SimAsked, Unplanned, sim_by};
@@ -35,7 +37,41 @@ pub enum Coding {
     Base64,
 }
 
-/// What is done with the input.
+/// What bytes are, alone.
+#[derive(Clone, Copy)]
+pub enum Kind {
+    /// A message of a link.
+    Message,
+    /// An envelope: a statement and its signature.
+    Envelope,
+    /// A statement.
+    Statement,
+    /// A quorum set.
+    Set,
+    /// A value.
+    Value,
+}
+
+/// Which way something is written.
+#[derive(Clone, Copy)]
+pub enum Way {
+    /// Its bytes are given, and its text is written.
+    Decode,
+    /// Its text is given, and its bytes are written.
+    Encode,
+}
+
+/// What is made of each line of an input.
+#[derive(Clone, Copy)]
+pub struct Conversion {
+    pub way: Way,
+    pub kind: Kind,
+    pub coding: Coding,
+    /// A JSON object is written for the line.
+    pub json: bool,
+}
+
+/// What is done with a script.
 #[derive(Clone, Copy)]
 pub enum Task {
     /// A script is played, and its reports are written.
@@ -58,25 +94,19 @@ pub enum Task {
     Hex,
     /// A script is written with text in place of hex digits.
     Text,
-    /// Messages are written as text.
-    Decode(Coding),
-    /// Messages are written as bytes.
-    Encode(Coding),
 }
 
-/// Where the input comes from.
-#[derive(Drop)]
+/// Where a script comes from.
+#[derive(Clone, Copy)]
 pub enum Source<'a> {
     /// The standard input.
     Input,
     /// The file of this path.
     File(&'a str),
-    /// The words themselves: the messages to decode, or the words of the one message to encode.
-    Words(Vec<&'a str>),
 }
 
-/// What is asked of scripts or messages.
-#[derive(Drop)]
+/// What is asked of a script.
+#[derive(Clone, Copy)]
 pub struct Asked<'a> {
     pub task: Task,
     /// A failure is reported on the standard output, in the fixed form.
@@ -84,6 +114,14 @@ pub struct Asked<'a> {
     /// Whether the notices of a run are left out.
     pub quiet: bool,
     pub source: Source<'a>,
+}
+
+/// What is asked of messages, or of parts of them.
+#[derive(Drop)]
+pub struct ConversionAsked<'a> {
+    pub conversion: Conversion,
+    /// The words with their bytes, or the words of one text. Without any, they come from the standard input, line by line.
+    pub words: Option<Vec<&'a str>>,
 }
 
 /// What is done with a node.
@@ -116,8 +154,10 @@ pub struct NodeAsked<'a> {
 /// What the words of a command line ask for.
 #[derive(Drop)]
 pub enum Wanted<'a> {
-    /// A task on scripts or messages.
+    /// A task on a script.
     Script(Asked<'a>),
+    /// A conversion of messages, or of parts of them.
+    Conversion(ConversionAsked<'a>),
     /// A node.
     Node(NodeAsked<'a>),
     /// A simulation.
@@ -127,7 +167,7 @@ pub enum Wanted<'a> {
 /// The answer to words that ask for no task.
 #[derive(Drop)]
 pub enum Unasked {
-    /// The help or the version, which was asked for.
+    /// The help, the version, or another text of the program's own words, which was asked for.
     Told(String),
     /// What is wrong with the words.
     Wrong(String),
@@ -143,15 +183,15 @@ fn file_of<'a>(matches: &ArgMatches<'a>) -> Source<'a> {
     }
 }
 
-/// The messages that are among the words themselves. Without any, they come from the standard input.
-fn messages_of<'a>(
+/// The words behind a command. `-` and no word are the standard input.
+fn words_of<'a>(
     alloc: Global,
     matches: &ArgMatches<'a>,
     id: &str,
-) -> Result<Source<'a>, AllocError> {
+) -> Result<Option<Vec<&'a str>>, AllocError> {
     match matches.get_strs(id) {
-        None | Some([]) | Some(["-"]) => Ok(Source::Input),
-        Some(words) => Ok(Source::Words(Vec::from_slice(alloc, words)?)),
+        None | Some([]) | Some(["-"]) => Ok(None),
+        Some(words) => Ok(Some(Vec::from_slice(alloc, words)?)),
     }
 }
 
@@ -188,6 +228,24 @@ fn coding_of(matches: &ArgMatches<'_>) -> Coding {
     Coding::Hex
 }
 
+fn kind_of(matches: &ArgMatches<'_>) -> Kind {
+    match matches.get_str("as") {
+        Some("envelope") => Kind::Envelope,
+        Some("statement") => Kind::Statement,
+        Some("set") => Kind::Set,
+        Some("value") => Kind::Value,
+        _ => Kind::Message,
+    }
+}
+
+fn shell_of(matches: &ArgMatches<'_>) -> Shell {
+    match matches.get_str("SHELL") {
+        Some("zsh") => Shell::Zsh,
+        Some("fish") => Shell::Fish,
+        _ => Shell::Bash,
+    }
+}
+
 /// A task whose input is a file.
 fn with_file<'a>(task: Task, matches: &ArgMatches<'a>) -> Asked<'a> {
     Asked {
@@ -198,42 +256,37 @@ fn with_file<'a>(task: Task, matches: &ArgMatches<'a>) -> Asked<'a> {
     }
 }
 
-/// A task whose input may be among the words.
-fn with_messages<'a>(
-    alloc: Global,
-    task: Task,
-    matches: &ArgMatches<'a>,
-    id: &str,
-) -> Result<Asked<'a>, AllocError> {
-    Ok(Asked {
-        task,
-        plain: false,
-        quiet: false,
-        source: messages_of(alloc, matches, id)?,
-    })
+/// The task that a command on scripts asks for, from its name.
+fn task_by(name: &str, matches: &ArgMatches<'_>) -> Option<Task> {
+    match name {
+        "run" => Some(run_of(matches)),
+        "check" => Some(Task::Check),
+        "stand" => Some(Task::Stand),
+        "trace" => Some(Task::Trace),
+        "draw" => Some(Task::Draw),
+        "slot" => Some(Task::Slot),
+        "quorums" => Some(Task::Quorums),
+        "hex" => Some(Task::Hex),
+        "text" => Some(Task::Text),
+        _ => None,
+    }
 }
 
-/// The task that a command on scripts asks for, from its name and its words.
-fn script_by<'a>(
+/// A conversion, one way, of what the words of this name say.
+fn conversion_of<'a>(
     alloc: Global,
-    name: &str,
+    way: Way,
     matches: &ArgMatches<'a>,
-) -> Result<Option<Asked<'a>>, AllocError> {
-    let asked = match name {
-        "run" => with_file(run_of(matches), matches),
-        "check" => with_file(Task::Check, matches),
-        "stand" => with_file(Task::Stand, matches),
-        "trace" => with_file(Task::Trace, matches),
-        "draw" => with_file(Task::Draw, matches),
-        "slot" => with_file(Task::Slot, matches),
-        "quorums" => with_file(Task::Quorums, matches),
-        "hex" => with_file(Task::Hex, matches),
-        "text" => with_file(Task::Text, matches),
-        "decode" => with_messages(alloc, Task::Decode(coding_of(matches)), matches, "HEX")?,
-        "encode" => with_messages(alloc, Task::Encode(coding_of(matches)), matches, "TEXT")?,
-        _ => return Ok(None),
+    id: &str,
+) -> Result<ConversionAsked<'a>, AllocError> {
+    let words = words_of(alloc, matches, id)?;
+    let conversion = Conversion {
+        way,
+        kind: kind_of(matches),
+        coding: coding_of(matches),
+        json: matches.get_flag("json"),
     };
-    Ok(Some(asked))
+    Ok(ConversionAsked { conversion, words })
 }
 
 /// What a command of a node asks for.
@@ -254,22 +307,32 @@ fn node_by<'a>(matches: &ArgMatches<'a>) -> Option<NodeAsked<'a>> {
     Some(NodeAsked { config, task })
 }
 
+/// What a command on a node or on scripts asks for, from its name and its words.
+fn plain_by<'a>(name: &str, matches: &ArgMatches<'a>) -> Option<Wanted<'a>> {
+    if name == "node" {
+        return match node_by(matches) {
+            Some(asked) => Some(Wanted::Node(asked)),
+            None => None,
+        };
+    }
+    match task_by(name, matches) {
+        Some(task) => Some(Wanted::Script(with_file(task, matches))),
+        None => None,
+    }
+}
+
 /// What a command asks for, from its name and its words.
 fn wanted_by<'a>(
     alloc: Global,
     name: &str,
     matches: &ArgMatches<'a>,
 ) -> Result<Option<Wanted<'a>>, AllocError> {
-    if name == "node" {
-        return Ok(match node_by(matches) {
-            Some(asked) => Some(Wanted::Node(asked)),
-            None => None,
-        });
-    }
-    Ok(match script_by(alloc, name, matches)? {
-        Some(asked) => Some(Wanted::Script(asked)),
-        None => None,
-    })
+    let converted = match name {
+        "decode" => conversion_of(alloc, Way::Decode, matches, "HEX")?,
+        "encode" => conversion_of(alloc, Way::Encode, matches, "TEXT")?,
+        _ => return Ok(plain_by(name, matches)),
+    };
+    Ok(Some(Wanted::Conversion(converted)))
 }
 
 /// What is shown in place of a task, from the parser of the words.
@@ -290,12 +353,12 @@ fn unasked_by(alloc: Global, error: &Error) -> Unasked {
 }
 
 /// What is shown of an option whose word isn't valid.
-fn bad_option(alloc: Global, bad: &BadOption) -> Unasked {
+fn bad_option(alloc: Global, bad: &BadOption<'_>) -> Unasked {
     let mut text = String::new(alloc);
-    let (option, expected) = (bad.option, bad.expected);
+    let (option, word, expected) = (bad.option, bad.word, bad.expected);
     match writeln!(
         text,
-        "error: --{option}: expected {expected}; see bowls sim --help"
+        "error: --{option} '{word}': expected {expected}; see bowls sim --help"
     ) {
         Ok(()) => Unasked::Wrong(text),
         Err(_) => Unasked::NoMemory,
@@ -311,10 +374,24 @@ fn simulation<'a>(alloc: Global, matches: &ArgMatches<'a>) -> Result<Wanted<'a>,
     }
 }
 
+/// A text of the program's own words, or that it is out of memory.
+fn told(text: Result<String, AllocError>) -> Unasked {
+    match text {
+        Ok(text) => Unasked::Told(text),
+        Err(_) => Unasked::NoMemory,
+    }
+}
+
 /// What the matches of a command line ask for.
-fn asked_by<'a>(alloc: Global, matches: &ArgMatches<'a>) -> Result<Wanted<'a>, Unasked> {
+fn asked_by<'a>(
+    alloc: Global,
+    version: &'a str,
+    matches: &ArgMatches<'a>,
+) -> Result<Wanted<'a>, Unasked> {
     match matches.subcommand() {
         Some(("sim", inner)) => simulation(alloc, inner),
+        Some(("completions", inner)) => Err(told(completions(alloc, shell_of(inner)))),
+        Some(("man", _)) => Err(told(manual(alloc, version))),
         Some((name, inner)) => match wanted_by(alloc, name, inner) {
             Ok(Some(wanted)) => Ok(wanted),
             Ok(None) => Err(no_command(alloc)),
@@ -322,14 +399,6 @@ fn asked_by<'a>(alloc: Global, matches: &ArgMatches<'a>) -> Result<Wanted<'a>, U
         },
         None => Err(no_command(alloc)),
     }
-}
-
-fn parsed<'a>(
-    alloc: Global,
-    version: &'a str,
-    words: &'a [&'a str],
-) -> Result<ArgMatches<'a>, Error> {
-    command_line(alloc, version)?.try_get_matches_from(words)
 }
 
 /// What is shown for words that name no command.
@@ -347,7 +416,7 @@ pub fn read_words<'a>(
     words: &'a [&'a str],
 ) -> Result<Wanted<'a>, Unasked> {
     match parsed(alloc, version, words) {
-        Ok(matches) => asked_by(alloc, &matches),
+        Ok(matches) => asked_by(alloc, version, &matches),
         Err(error) => Err(unasked_by(alloc, &error)),
     }
 }

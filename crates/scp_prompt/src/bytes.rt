@@ -2,11 +2,11 @@
 ghost use Rattle.std.specs.Prelude.{◌≡◌, ◌≢◌, ◌≤◌, ◌<◌, length, OnOk, OnErr, IfOk, IfErr, IfSome, IsErrOf};
 ghost use Rattle.scp_device.specs.Device.{Gains, GainsPart, Fails, IsReadFault};
 
+use scp_device::below::types::Fault;
 use scp_device::{ReportOut, ScriptIn};
-use scp_types::Fault;
 use std::alloc::Global;
 
-/// The most bytes of a script that is rewritten: 16 MiB (this project's profile).
+/// The most bytes of a script or of messages that `bowls` reads: 16 MiB (this project's profile). In the fixed form a script has less.
 pub const LONG_LIMIT: usize = 16_777_216;
 
 /// Reads all there is, at most 16 MiB. Refused by `Fault::TooLong` if there is more, by `Fault::Device` if the reader failed, and by

@@ -1,14 +1,18 @@
 //! The commands, their options and their help.
 
 use clap::builder::ValueParser;
-use clap::{Arg, Command};
-use scp_sim_options::{Entry, Place, SIM, SIM_HELP, Word};
+use clap::{Arg, ArgMatches, Command, Error};
+use scp_sim_options::{Entry, Place, SIM, Word};
 use std::alloc::{AllocError, Global};
 
 static ABOUT: &str =
     "Plays and checks scripts of nodes that agree by the Stellar Consensus Protocol, and runs a node";
 
-static AFTER: &str = "Files:
+static AFTER: &str = "Examples:
+  bowls run examples/four_nodes.scp
+  bowls help run
+
+Files:
   FILE is a script, in hexadecimal digits, as text, or in both, line by line;
   where it is left out or is -, the standard input is read.
   What goes wrong is told on the standard error as FILE:LINE:WORD: what stands there, what was expected.
@@ -22,7 +26,10 @@ Statuses:
   3  a node failed, memory ran out, or a file, the input or the output failed
   4  a script was played, and there are notices of it on the standard error";
 
-static AFTER_NODE: &str = "Lines:
+static AFTER_NODE: &str = "Example:
+  bowls node check examples/network/alice.toml
+
+Lines:
   A line of the standard input is an event or a question; what comes of it is written to the standard output, 'ok' last.
   A line that is neither is answered by 'bad', and nothing else comes of it.
   Where the standard input ends, so does the node, with status 0.
@@ -42,9 +49,23 @@ const PLAIN: Word = Word {
     ..Word::FLAG
 };
 
+const AS: Word = Word {
+    name: "as",
+    help: "What the bytes are, alone",
+    parser: ValueParser::Names(&["message", "envelope", "statement", "set", "value"]),
+    default: &["message"],
+    ..Word::OPTION
+};
+
 const BASE64: Word = Word {
     name: "base64",
-    help: "The bytes of messages in base64",
+    help: "The bytes in base64",
+    ..Word::FLAG
+};
+
+const JSON_LINES: Word = Word {
+    name: "json",
+    help: "One JSON object for each line",
     ..Word::FLAG
 };
 
@@ -62,8 +83,8 @@ const LOG: Word = Word {
     ..Word::OPTION
 };
 
-/// The commands on scripts and messages.
-static SCRIPTS: [Entry; 11] = [
+/// The commands on scripts and messages, and those on the program's own words.
+static SCRIPTS: [Entry; 13] = [
     Entry {
         name: "run",
         about: "Plays a script and prints its reports",
@@ -99,70 +120,103 @@ static SCRIPTS: [Entry; 11] = [
                 ..Word::FLAG
             },
         ],
+        end: "Example:\n  bowls run examples/four_nodes.scp",
     },
     Entry {
         name: "check",
         about: "Tells what is wrong with a script",
         words: &[FILE, PLAIN],
+        end: "Example:\n  bowls check examples/four_nodes.scp",
     },
     Entry {
         name: "stand",
         about: "Plays a script and tells where its nodes stand, and what is missing",
         words: &[FILE, PLAIN],
+        end: "Example:\n  bowls stand examples/waits_for_a_set.scp",
     },
     Entry {
         name: "trace",
         about: "Plays a script and tells all that happens, line by line",
         words: &[FILE, PLAIN],
+        end: "Example:\n  bowls trace examples/first_record.scp",
     },
     Entry {
         name: "draw",
         about: "Plays a script and draws what happens, as one page of HTML",
         words: &[FILE],
+        end: "Example:\n  bowls draw examples/four_nodes.scp > four_nodes.html",
     },
     Entry {
         name: "slot",
         about: "Plays a script of one slot's machine",
         words: &[FILE, PLAIN],
+        end: "Example:\n  bowls slot examples/slots/alone.slot",
     },
     Entry {
         name: "quorums",
         about: "Tells whether quorums intersect, whose loss halts a node, and how many may be lost",
         words: &[FILE],
+        end: "Example:\n  bowls quorums examples/four_nodes.scp",
     },
     Entry {
         name: "hex",
         about: "Writes a script with digits in place of text",
         words: &[FILE],
+        end: "Example:\n  bowls hex examples/first_record.text",
     },
     Entry {
         name: "text",
         about: "Writes a script with text in place of digits",
         words: &[FILE],
+        end: "Example:\n  bowls text examples/first_record.scp",
     },
     Entry {
         name: "decode",
-        about: "Writes messages as text",
+        about: "Writes messages, or parts of them, as text",
         words: &[
             Word {
                 name: "HEX",
-                help: "Messages, each a word; where there is none, the lines of the standard input",
+                help: "Their bytes, each a word; where there is none, the lines of the standard input",
                 ..Word::REST
             },
+            AS,
             BASE64,
+            JSON_LINES,
         ],
+        end: "Examples:\n  bowls decode 000000050000000000000007\n  bowls decode --as envelope --base64 < envelopes",
     },
     Entry {
         name: "encode",
-        about: "Writes messages as bytes",
+        about: "Writes messages, or parts of them, as bytes",
         words: &[
             Word {
                 name: "TEXT",
-                help: "The words of a message; where there is none, the lines of the standard input",
+                help: "The words of one; where there is none, the lines of the standard input",
                 ..Word::REST
             },
+            AS,
             BASE64,
+            JSON_LINES,
         ],
+        end: "Examples:\n  bowls encode getrecord 7\n  bowls encode --as set '2of(1,2,2of(3,4))'",
+    },
+    Entry {
+        name: "completions",
+        about: "Writes what a shell reads to complete the words of bowls",
+        words: &[Word {
+            name: "SHELL",
+            help: "Which shell",
+            parser: ValueParser::Names(&["bash", "zsh", "fish"]),
+            required: true,
+            ..Word::IN_TURN
+        }],
+        end: "Example:\n  source <(bowls completions bash)",
+    },
+    Entry {
+        name: "man",
+        about: "Writes this help as a page of the manual",
+        words: &[],
+        end: "Example:\n  bowls man > bowls.1; man ./bowls.1",
     },
 ];
 
@@ -181,6 +235,7 @@ static NODE: [Entry; 3] = [
                 ..Word::OPTION
             },
         ],
+        end: "Example:\n  bowls node run examples/network/alice.toml --log node.log",
     },
     Entry {
         name: "account",
@@ -193,13 +248,45 @@ static NODE: [Entry; 3] = [
                 ..LOG
             },
         ],
+        end: "Example:\n  bowls node account examples/network/alice.toml --log node.log",
     },
     Entry {
         name: "check",
         about: "Tells what is wrong with a configuration, or its digest",
         words: &[CONFIG],
+        end: "Example:\n  bowls node check examples/network/alice.toml",
     },
 ];
+
+/// A command that the program knows, with the name of the one before it.
+#[derive(Clone, Copy)]
+pub(crate) struct Known {
+    pub parent: &'static str,
+    pub entry: Entry,
+}
+
+fn add_known(
+    known: &mut Vec<Known>,
+    parent: &'static str,
+    entries: &[Entry],
+) -> Result<(), AllocError> {
+    for entry in entries {
+        known.push(Known {
+            parent,
+            entry: *entry,
+        })?;
+    }
+    Ok(())
+}
+
+/// All commands that the program knows, but for `node` and `help`, which only lead to others.
+pub(crate) fn known_commands(alloc: Global) -> Result<Vec<Known>, AllocError> {
+    let mut known = Vec::new(alloc);
+    add_known(&mut known, "", SCRIPTS.as_slice())?;
+    add_known(&mut known, "", &[SIM])?;
+    add_known(&mut known, "node", NODE.as_slice())?;
+    Ok(known)
+}
 
 /// A word, as the parser of the words knows it.
 fn arg_of<'a>(alloc: Global, word: &Word) -> Result<Arg<'a>, AllocError> {
@@ -232,6 +319,7 @@ fn command_of<'a>(alloc: Global, entry: &Entry) -> Result<Command<'a>, AllocErro
     let args = args_of(alloc, entry.words)?;
     Command::new(alloc, entry.name)
         .about(entry.about)
+        .after_help(entry.end)
         .args(args)
 }
 
@@ -254,22 +342,16 @@ fn node<'a>(alloc: Global) -> Result<Command<'a>, AllocError> {
         .subcommands(commands)
 }
 
-/// The command of a simulation.
-fn sim<'a>(alloc: Global) -> Result<Command<'a>, AllocError> {
-    let command = command_of(alloc, &SIM)?;
-    Ok(command.after_help(SIM_HELP))
-}
-
 /// All commands.
 fn all<'a>(alloc: Global) -> Result<Vec<Command<'a>>, AllocError> {
     let mut commands = commands_of(alloc, SCRIPTS.as_slice())?;
-    commands.push(sim(alloc)?)?;
+    commands.push(command_of(alloc, &SIM)?)?;
     commands.push(node(alloc)?)?;
     Ok(commands)
 }
 
 /// All commands with all their words.
-pub(crate) fn command_line<'a>(alloc: Global, version: &'a str) -> Result<Command<'a>, AllocError> {
+fn command_line<'a>(alloc: Global, version: &'a str) -> Result<Command<'a>, AllocError> {
     let commands = all(alloc)?;
     Command::new(alloc, "bowls")
         .bin_name("bowls")?
@@ -279,4 +361,13 @@ pub(crate) fn command_line<'a>(alloc: Global, version: &'a str) -> Result<Comman
         .subcommand_required(true)
         .arg_required_else_help(true)
         .subcommands(commands)
+}
+
+/// The words of a command line, as the parser reads them.
+pub(crate) fn parsed<'a>(
+    alloc: Global,
+    version: &'a str,
+    words: &'a [&'a str],
+) -> Result<ArgMatches<'a>, Error> {
+    command_line(alloc, version)?.try_get_matches_from(words)
 }

@@ -7,8 +7,8 @@ ghost use Rattle.scp_prompt.specs.Failing.{stop_front, stop_number, stop_back, s
 
 use crate::places::{Place, write_behind, write_place};
 use itoa::Buffer;
+use scp_device::below::types::{Fault, Stage};
 use scp_device::{BadLine, ReportOut, write_bad_word, write_numbered, write_text};
-use scp_types::{Fault, Stage};
 use std::alloc::Global;
 
 /// What stopped a play.

@@ -4,8 +4,8 @@ ghost use Rattle.scp_device.specs.Device.{Gains, Fails};
 ghost use Rattle.scp_prompt.specs.Places.{part_in, word_in, shown_byte, shown as shown_text, stands_text, IsStanding, place_front, place_back, place_line};
 
 use itoa::Buffer;
+use scp_device::below::types::Fault;
 use scp_device::{ReportOut, write_parts, write_text};
-use scp_types::Fault;
 use std::alloc::{AllocError, Global};
 
 /// The limit on the bytes of a word that are shown.

@@ -2,8 +2,8 @@
 ghost use Rattle.std.specs.Prelude.{◌≡◌, ℕ, List, Option, None, OnOk, OnErr};
 ghost use Rattle.scp_device.specs.Device.{Fails};
 
+use scp_device::below::types::Fault;
 use scp_device::{ReportOut, ScriptIn};
-use scp_types::Fault;
 use std::io::{self, ErrorKind};
 
 /// A reader or a writer that says why it failed.

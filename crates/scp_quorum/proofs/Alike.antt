@@ -1,7 +1,7 @@
 -- A set that begins with nodes of which enough are there.
 use Rattle.std.proofs.Common.{◌≡◌, ℕ, ◌≤◌, Bool, cond, List, length, take, count_by, arith, ap}
 use Rattle.std.proofs.lemmas.List.Sums.{sum_by-take-le}
-use Rattle.scp_types.specs.declared.names.NodeId.{NodeId}
+use Rattle.scp_xdr.specs.scp_types.specs.declared.names.NodeId.{NodeId}
 use Rattle.scp_quorum.specs.QuorumTree.{QuorumTree}
 use Rattle.scp_quorum.specs.Satisfies.{Satisfies}
 

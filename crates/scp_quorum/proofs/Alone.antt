@@ -2,7 +2,7 @@
 use Rattle.std.proofs.Common.{◌≡◌, ℕ, [], ◌∷◌, length, arith, sym, subst, refl}
 use Rattle.std.specs.List.{IsDistinct}
 use Rattle.std.proofs.lemmas.List.Sums.{sum_by-cons}
-use Rattle.scp_types.specs.declared.names.NodeId.{NodeId}
+use Rattle.scp_xdr.specs.scp_types.specs.declared.names.NodeId.{NodeId}
 use Rattle.scp_xdr.specs.Tree.{no_trees}
 use Rattle.scp_xdr.specs.Kind.{Values, Fits}
 use Rattle.scp_xdr.specs.Length.{padded_len, spelled_len}

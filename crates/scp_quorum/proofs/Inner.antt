@@ -1,6 +1,6 @@
 -- Inner sets after their count, if this many levels may follow.
 use Rattle.std.proofs.Common.{◌≡◌, ℕ, zero, suc, ◌-◌, ◌<◌, List, [], Result, Ok, Err, arith, refl}
-use Rattle.scp_types.specs.declared.fault.Fault.{Fault}
+use Rattle.scp_xdr.specs.scp_types.specs.declared.fault.Fault.{Fault}
 use Rattle.scp_xdr.specs.Tree.{Tree, tree_of}
 use Rattle.scp_xdr.specs.Kind.{Values}
 use Rattle.scp_xdr.specs.Reading.{Cursor, Read, ◌>>=◌, reading, read_count, read_items, tree_with, read_inner, read_tree}

@@ -5,7 +5,7 @@ use Rattle.std.specs.List.{All, Contains}
 use Rattle.std.proofs.lemmas.Bool.{cases_eq}
 use Rattle.std.proofs.lemmas.List.Elements.{All-set, All-push, Contains-push, Contains-push_cases, Contains-append_left}
 use Rattle.std.proofs.lemmas.List.Quantifiers.{any-set, Any-push}
-use Rattle.scp_types.specs.declared.names.NodeId.{NodeId}
+use Rattle.scp_xdr.specs.scp_types.specs.declared.names.NodeId.{NodeId}
 use Rattle.scp_quorum.specs.declared.quorum.groups.Group.{Group}
 use Rattle.scp_quorum.specs.QuorumTree.{QuorumTree}
 use Rattle.scp_quorum.specs.inside.Groups.{HasOneSet, IsGrouped}

@@ -7,7 +7,7 @@ use Rattle.std.specs.BTreeMap.{BTreeMap, keys, is_at}
 use Rattle.std.specs.BTreeSet.{BTreeSet, IsFromIterResult}
 use Rattle.std.specs.declared.sync.Arc.{Arc}
 use Rattle.std.proofs.lemmas.Map.Made.{is_some-lookup}
-use Rattle.scp_types.specs.declared.names.NodeId.{NodeId}
+use Rattle.scp_xdr.specs.scp_types.specs.declared.names.NodeId.{NodeId}
 use Rattle.scp_quorum.specs.declared.sane_set.SaneSet.{SaneSet}
 use Rattle.scp_quorum.specs.NodeSet.{node_cmp, is_in}
 use Rattle.scp_quorum.specs.QuorumTree.{QuorumTree}

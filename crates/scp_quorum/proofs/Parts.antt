@@ -2,7 +2,7 @@
 use Rattle.std.proofs.Common.{◌≡◌, ◌≤◌, ◌+◌, ◌↔◌, ℕ, Bool, true, false, cond, List, [], ◌∷◌, length, count_by, Option, Some, None, IsSomeAnd, refl, sym, subst, ap, arith, ◌∙◌}
 use Rattle.std.proofs.lemmas.List.Sums.{sum_by-cons}
 use Rattle.std.proofs.lemmas.Bool.Decides.{nat_tests}
-use Rattle.scp_types.specs.declared.names.NodeId.{NodeId}
+use Rattle.scp_xdr.specs.scp_types.specs.declared.names.NodeId.{NodeId}
 use Rattle.scp_xdr.specs.Tree.{Trees, no_trees, tree_then, row_len}
 use Rattle.scp_quorum.specs.QuorumTree.{Level, QuorumTree}
 use Rattle.scp_quorum.specs.Satisfies.{satisfied_count, Satisfies, AreDisjoint, Blocks}

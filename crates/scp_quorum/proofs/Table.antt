@@ -1,7 +1,7 @@
 -- Nodes that a table has.
 use Rattle.std.proofs.Common.{◌≡◌, ℕ, ◌<◌, true, List, length, get_or, Option, Some, None, IfSome, is_some, sym, ◌∙◌, ap}
 use Rattle.std.specs.List.{Contains}
-use Rattle.scp_types.specs.declared.names.NodeId.{NodeId}
+use Rattle.scp_xdr.specs.scp_types.specs.declared.names.NodeId.{NodeId}
 
 pub contains_found : (nodes : List NodeId) (i : ℕ) (found node : NodeId) → i < length nodes → found ≡ get_or nodes i node → found.0 ≡ node.0 → Contains nodes node
 contains_found nodes i found node here stands bytes =

@@ -4,7 +4,7 @@ use Rattle.std.specs.Prelude.{map}
 use Rattle.std.specs.List.{flat_map, sum_by, AllByRecursion}
 use Rattle.std.proofs.lemmas.List.{length-map}
 use Rattle.std.proofs.lemmas.List.Folds.{flat_map-map}
-use Rattle.scp_types.specs.declared.names.NodeId.{NodeId}
+use Rattle.scp_xdr.specs.scp_types.specs.declared.names.NodeId.{NodeId}
 use Rattle.scp_xdr.specs.Tree.{Trees, Tree, row_len, row_map, in_a_row, tree_of}
 use Rattle.scp_xdr.specs.Kind.{array, Values, Fits, TreeFits, RowFits, limit_at, word, spelling, row_spelling, tree_spelling}
 use Rattle.scp_xdr.specs.Length.{spelled_len, row_size, tree_size}

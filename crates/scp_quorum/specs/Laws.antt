@@ -1,6 +1,6 @@
 -- Laws of satisfying, blocking and quorums.
 use Rattle.std.specs.Prelude.{Bool, false, Option, ◌↔◌}
-use Rattle.scp_types.specs.declared.names.NodeId.{NodeId}
+use Rattle.scp_xdr.specs.scp_types.specs.declared.names.NodeId.{NodeId}
 use Rattle.scp_quorum.specs.QuorumTree.{QuorumTree}
 use Rattle.scp_quorum.specs.Satisfies.{Satisfies, Blocks}
 use Rattle.scp_quorum.specs.Sane.{IsSane}

@@ -1,3 +1,5 @@
+pub use Rattle.scp_xdr.specs.scp_types
+pub use Rattle.scp_xdr
 pub mod QuorumTree
 pub mod QuorumKind
 pub mod NodeSet

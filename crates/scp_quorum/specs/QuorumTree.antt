@@ -1,6 +1,6 @@
 -- What a quorum set is, apart from memory: a tree of thresholds and validators.
 use Rattle.std.specs.Prelude.{ℕ, List}
-use Rattle.scp_types.specs.declared.names.NodeId.{NodeId}
+use Rattle.scp_xdr.specs.scp_types.specs.declared.names.NodeId.{NodeId}
 use Rattle.scp_xdr.specs.Tree.{Tree}
 
 -- what one quorum set has besides its inner sets

@@ -2,7 +2,7 @@
 use Rattle.std.specs.Prelude.{ℕ, ◌+◌, ◌≤◌, List, [], ◌++◌, length, max}
 use Rattle.std.specs.List.{IsDistinct}
 use Rattle.std.specs.Ordering.{eq_by_cmp}
-use Rattle.scp_types.specs.declared.names.NodeId.{NodeId}
+use Rattle.scp_xdr.specs.scp_types.specs.declared.names.NodeId.{NodeId}
 use Rattle.scp_xdr.specs.Tree.{Trees, no_trees, tree_then, row_len}
 use Rattle.scp_xdr.specs.Kind.{Fits}
 use Rattle.scp_quorum.specs.NodeSet.{node_cmp}

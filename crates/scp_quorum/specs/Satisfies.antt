@@ -1,6 +1,6 @@
 -- When a set of nodes satisfies or blocks a quorum set (the SCP draft). A set of nodes is a test of nodes.
 use Rattle.std.specs.Prelude.{◌≡◌, ℕ, ◌+◌, ◌≤◌, Bool, true, false, nat_le, count_by, if◌then◌else◌}
-use Rattle.scp_types.specs.declared.names.NodeId.{NodeId}
+use Rattle.scp_xdr.specs.scp_types.specs.declared.names.NodeId.{NodeId}
 use Rattle.scp_xdr.specs.Tree.{Trees, no_trees, tree_then}
 use Rattle.scp_quorum.specs.QuorumTree.{Level, QuorumTree}
 

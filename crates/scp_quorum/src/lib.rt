@@ -10,6 +10,7 @@
 //!   answered exactly where there is no quorum.
 #![tactic(auto)]
 
+pub mod below;
 mod laws;
 mod quorum;
 mod quorum_set;

@@ -12,7 +12,7 @@ ghost use Rattle.scp_quorum.specs.Sane.{all_nodes, levels};
 ghost use Rattle.scp_quorum.specs.QuorumKind.{set_kind, set_value, set_spelling};
 ghost use Rattle.sha2.specs.Sha256.{sha256};
 
-use scp_types::{Fault, Hash, NodeId};
+use scp_xdr::below::types::{Fault, Hash, NodeId};
 use sha2::{Digest, Sha256};
 pub use slices::{Nodes, blocked, satisfied};
 use std::alloc::{AllocError, Global};

@@ -6,7 +6,7 @@ ghost use Rattle.scp_quorum.specs.QuorumKind.{set_spelling};
 ghost use Rattle.sha2.specs.Sha256.{sha256};
 
 use crate::quorum_set::QuorumSet;
-use scp_types::{Fault, Hash, NodeId};
+use scp_xdr::below::types::{Fault, Hash, NodeId};
 use std::alloc::Global;
 use std::marker::Model;
 

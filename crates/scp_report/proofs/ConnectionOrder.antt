@@ -7,12 +7,12 @@ use Rattle.std.specs.declared.cmp.Ordering.TheVariants.{Less, Equal, Greater}
 use Rattle.std.specs.Cmp.{IsTotalOrder}
 use Rattle.std.proofs.lemmas.Cmp.{nat_cmp_total, nat_list_cmp_total, on_total, then_total}
 use Rattle.std.specs.BTreeSet.{insert_key}
-use Rattle.scp_types.specs.declared.names.ConnId.{ConnId}
-use Rattle.scp_ledger.specs.declared.journal.Fate.{Fate}
-use Rattle.scp_wire.specs.Connections.{same_conn}
+use Rattle.scp_core.specs.scp_types.specs.declared.names.ConnId.{ConnId}
+use Rattle.scp_core.specs.scp_ledger.specs.declared.journal.Fate.{Fate}
+use Rattle.scp_core.specs.scp_wire.specs.Connections.{same_conn}
 use Rattle.scp_report.specs.declared.report.Parked.{Parked}
-use Rattle.scp_types.specs.Order.{conn_cmp}
-use Rattle.scp_theorem.specs.Fates.{conn_of}
+use Rattle.scp_core.specs.scp_types.specs.Order.{conn_cmp}
+use Rattle.scp_core.specs.scp_theorem.specs.Fates.{conn_of}
 use Rattle.scp_report.specs.Settled.{conn_parked, conns_of, AreConnections}
 use Rattle.scp_report.proofs.Sections.{ties, same_is_equal}
 

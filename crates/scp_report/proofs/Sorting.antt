@@ -2,11 +2,11 @@
 use Rattle.std.proofs.Common.{◌≡◌, Bool, true, false, cond, List, [], ◌∷◌, ◌++◌, map, Option, Some, None, Bor, Vec, refl, sym, ◌∙◌, ap}
 use Rattle.std.specs.Prelude.{if◌then◌else◌}
 use Rattle.std.specs.Ordering.{is_eq}
-use Rattle.scp_types.specs.declared.names.ConnId.{ConnId}
-use Rattle.scp_types.specs.Order.{conn_cmp}
-use Rattle.scp_wire.specs.Connections.{same_conn}
-use Rattle.scp_ledger.specs.declared.journal.Fate.{Fate}
-use Rattle.scp_theorem.specs.Fates.{conn_of}
+use Rattle.scp_core.specs.scp_types.specs.declared.names.ConnId.{ConnId}
+use Rattle.scp_core.specs.scp_types.specs.Order.{conn_cmp}
+use Rattle.scp_core.specs.scp_wire.specs.Connections.{same_conn}
+use Rattle.scp_core.specs.scp_ledger.specs.declared.journal.Fate.{Fate}
+use Rattle.scp_core.specs.scp_theorem.specs.Fates.{conn_of}
 use Rattle.scp_report.proofs.Sections.{ties, same_is_equal}
 use Rattle.scp_report.specs.Json.{fates_on}
 use Rattle.scp_report.specs.inside.Grouped.{fates_or_none}

@@ -4,14 +4,14 @@ use Rattle.hex.specs.Hex.{encode_lower}
 use Rattle.serde_json.specs.Data.{Data, number, unsigned, string, array, object, member, no_members}
 use Rattle.serde_json.specs.View.{items_of}
 use Rattle.serde_json.specs.Written.{compact_text}
-use Rattle.scp_types.specs.declared.names.ConnId.{ConnId}
-use Rattle.scp_ledger.specs.declared.journal.Fate.{Fate}
-use Rattle.scp_ledger.specs.declared.journal.Fate.TheVariants.{Taken, Dropped, Closed}
-use Rattle.scp_ledger.specs.declared.journal.Origin.{Origin}
-use Rattle.scp_ledger.specs.declared.journal.Origin.TheVariants.{Machine, Named}
-use Rattle.scp_ledger.specs.declared.journal.Decision.{Decision}
-use Rattle.scp_wire.specs.Connections.{same_conn}
-use Rattle.scp_theorem.specs.Fates.{conn_of}
+use Rattle.scp_core.specs.scp_types.specs.declared.names.ConnId.{ConnId}
+use Rattle.scp_core.specs.scp_ledger.specs.declared.journal.Fate.{Fate}
+use Rattle.scp_core.specs.scp_ledger.specs.declared.journal.Fate.TheVariants.{Taken, Dropped, Closed}
+use Rattle.scp_core.specs.scp_ledger.specs.declared.journal.Origin.{Origin}
+use Rattle.scp_core.specs.scp_ledger.specs.declared.journal.Origin.TheVariants.{Machine, Named}
+use Rattle.scp_core.specs.scp_ledger.specs.declared.journal.Decision.{Decision}
+use Rattle.scp_core.specs.scp_wire.specs.Connections.{same_conn}
+use Rattle.scp_core.specs.scp_theorem.specs.Fates.{conn_of}
 use Rattle.scp_text.specs.Values.{bytes_text, value_text}
 use Rattle.scp_report.specs.declared.report.Parked.{Parked}
 use Rattle.scp_words.specs.Words.{verdict_word, cause_word, drop_word}

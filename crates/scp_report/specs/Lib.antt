@@ -1,3 +1,7 @@
+pub use Rattle.scp_script.specs.scp_device
+pub use Rattle.scp_script
+pub use Rattle.scp_words
+pub use Rattle.scp_text
 pub mod Report
 pub mod Waiting
 pub mod Node

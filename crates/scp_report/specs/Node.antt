@@ -1,9 +1,9 @@
 -- The record of a node that takes one step after another, in a script or live.
 use Rattle.std.specs.Prelude.{ℕ, ◌+◌, List, [], ◌∷◌, take}
-use Rattle.scp_types.specs.declared.limits.TheConstants.{LINK_LIMIT}
-use Rattle.scp_types.specs.declared.names.NodeId.{NodeId}
-use Rattle.scp_outbox.specs.Outbox.{OutboxView}
-use Rattle.scp_outbox.specs.Handing.{waiting_at, overwritten_at}
+use Rattle.scp_core.specs.scp_types.specs.declared.limits.TheConstants.{LINK_LIMIT}
+use Rattle.scp_core.specs.scp_types.specs.declared.names.NodeId.{NodeId}
+use Rattle.scp_core.specs.scp_outbox.specs.Outbox.{OutboxView}
+use Rattle.scp_core.specs.scp_outbox.specs.Handing.{waiting_at, overwritten_at}
 use Rattle.scp_core.specs.Kv.{NodeView, state_shown}
 use Rattle.scp_report.specs.declared.report.LinkReport.{LinkReport}
 use Rattle.scp_report.specs.Report.{ReportView, entries_of}

@@ -3,14 +3,14 @@ use Rattle.std.specs.Prelude.{ℕ, List, [], Option, Some, None}
 use Rattle.std.specs.Global.{Vec}
 use Rattle.std.proofs.Common.{Bor}
 use Rattle.std.specs.FinMap as map
-use Rattle.scp_types.specs.declared.names.NodeId.{NodeId}
-use Rattle.scp_quorum.specs.QuorumTree.{QuorumTree}
-use Rattle.scp_kv.specs.Map.{KvMap}
-use Rattle.scp_wire.specs.declared.carried.Carried.{Carried}
-use Rattle.scp_wire.specs.declared.link.LinkItem.{LinkItem}
-use Rattle.scp_ledger.specs.declared.journal.Fate.{Fate}
-use Rattle.scp_ledger.specs.declared.journal.Decision.{Decision}
-use Rattle.scp_ledger.specs.declared.took.CommandFate.{CommandFate}
+use Rattle.scp_core.specs.scp_types.specs.declared.names.NodeId.{NodeId}
+use Rattle.scp_core.specs.scp_quorum.specs.QuorumTree.{QuorumTree}
+use Rattle.scp_core.specs.scp_kv.specs.Map.{KvMap}
+use Rattle.scp_core.specs.scp_wire.specs.declared.carried.Carried.{Carried}
+use Rattle.scp_core.specs.scp_wire.specs.declared.link.LinkItem.{LinkItem}
+use Rattle.scp_core.specs.scp_ledger.specs.declared.journal.Fate.{Fate}
+use Rattle.scp_core.specs.scp_ledger.specs.declared.journal.Decision.{Decision}
+use Rattle.scp_core.specs.scp_ledger.specs.declared.took.CommandFate.{CommandFate}
 use Rattle.scp_report.specs.declared.report.LinkReport.{LinkReport}
 use Rattle.scp_report.specs.declared.report.Parked.{Parked}
 use Rattle.scp_report.specs.declared.report.Report.{Report}

@@ -4,18 +4,18 @@ use Rattle.std.specs.Fmt.{decimal}
 use Rattle.std.specs.List.{list_any}
 use Rattle.std.specs.List.Sorted.{IsStrictlySortedBy}
 use Rattle.std.specs.BTreeSet.{insert_key}
-use Rattle.scp_types.specs.declared.names.ConnId.{ConnId}
-use Rattle.scp_types.specs.declared.names.NodeId.{NodeId}
-use Rattle.scp_ledger.specs.declared.journal.Fate.{Fate}
-use Rattle.scp_ledger.specs.declared.journal.Fate.TheVariants.{Taken, Dropped, Closed}
-use Rattle.scp_ledger.specs.declared.journal.Origin.{Origin}
-use Rattle.scp_ledger.specs.declared.journal.Origin.TheVariants.{Machine, Named}
-use Rattle.scp_ledger.specs.declared.journal.Decision.{Decision}
-use Rattle.scp_wire.specs.Connections.{same_conn}
+use Rattle.scp_core.specs.scp_types.specs.declared.names.ConnId.{ConnId}
+use Rattle.scp_core.specs.scp_types.specs.declared.names.NodeId.{NodeId}
+use Rattle.scp_core.specs.scp_ledger.specs.declared.journal.Fate.{Fate}
+use Rattle.scp_core.specs.scp_ledger.specs.declared.journal.Fate.TheVariants.{Taken, Dropped, Closed}
+use Rattle.scp_core.specs.scp_ledger.specs.declared.journal.Origin.{Origin}
+use Rattle.scp_core.specs.scp_ledger.specs.declared.journal.Origin.TheVariants.{Machine, Named}
+use Rattle.scp_core.specs.scp_ledger.specs.declared.journal.Decision.{Decision}
+use Rattle.scp_core.specs.scp_wire.specs.Connections.{same_conn}
 use Rattle.scp_words.specs.Words.{verdict_word, cause_word, drop_word, hex_word}
 use Rattle.scp_report.specs.declared.report.Parked.{Parked}
-use Rattle.scp_theorem.specs.Fates.{conn_of}
-use Rattle.scp_types.specs.Order.{conn_cmp}
+use Rattle.scp_core.specs.scp_theorem.specs.Fates.{conn_of}
+use Rattle.scp_core.specs.scp_types.specs.Order.{conn_cmp}
 use Rattle.scp_report.specs.Report.{ReportView}
 
 -- the line of a journal entry

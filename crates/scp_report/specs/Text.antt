@@ -3,7 +3,7 @@ use Rattle.std.specs.Prelude.{ℕ, Bool, List, ◌++◌, codes, flat_map, nat_eq
 use Rattle.std.specs.Fmt.{decimal}
 use Rattle.std.specs.List.{list_any}
 use Rattle.hex.specs.Hex.{encode_lower}
-use Rattle.scp_ledger.specs.declared.journal.Decision.{Decision}
+use Rattle.scp_core.specs.scp_ledger.specs.declared.journal.Decision.{Decision}
 use Rattle.scp_text.specs.Pieces.{bracketed}
 use Rattle.scp_text.specs.Values.{bytes_text, value_text}
 use Rattle.scp_report.specs.Report.{ReportView}

@@ -1,11 +1,11 @@
 -- What a node holds, connection by connection (this project's profile).
 use Rattle.std.specs.Prelude.{ℕ, ◌+◌, List, [], ◌∷◌, ◌++◌, flat_map, nat_lt, take, if◌then◌else◌}
-use Rattle.scp_types.specs.declared.limits.TheConstants.{LINK_LIMIT}
-use Rattle.scp_types.specs.declared.names.ConnId.{ConnId}
-use Rattle.scp_types.specs.declared.names.NodeId.{NodeId}
-use Rattle.scp_wire.specs.Connections.{conn_at}
-use Rattle.scp_pending.specs.Line.{count_held}
-use Rattle.scp_pending.specs.Queues.{parked_of as parked_on, first_waiting}
+use Rattle.scp_core.specs.scp_types.specs.declared.limits.TheConstants.{LINK_LIMIT}
+use Rattle.scp_core.specs.scp_types.specs.declared.names.ConnId.{ConnId}
+use Rattle.scp_core.specs.scp_types.specs.declared.names.NodeId.{NodeId}
+use Rattle.scp_core.specs.scp_wire.specs.Connections.{conn_at}
+use Rattle.scp_core.specs.scp_pending.specs.Line.{count_held}
+use Rattle.scp_core.specs.scp_pending.specs.Queues.{parked_of as parked_on, first_waiting}
 use Rattle.scp_core.specs.Node.{lives_at}
 use Rattle.scp_core.specs.Kv.{NodeView}
 use Rattle.scp_script.specs.Nodes.{numbers}

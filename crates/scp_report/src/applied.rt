@@ -9,10 +9,10 @@ ghost use Rattle.scp_report.specs.Settled.{node_number};
 ghost use Rattle.scp_report.specs.Json.{count, origin_json, applied_json, state_json};
 
 use crate::settled::number_of;
+use scp_core::below::kv::KvState;
+use scp_core::below::types::{ConnId, Fault, Value as Bytes};
 use scp_core::{Decision, Origin, SharedDecision};
-use scp_kv::KvState;
 use scp_text::{Term, write_bytes};
-use scp_types::{ConnId, Fault, Value as Bytes};
 use serde_json::{Value, json};
 use std::alloc::{AllocError, Global};
 

@@ -1,6 +1,6 @@
 //! The connections of a node as JSON.
 ghost use Rattle.std.specs.Prelude.{◌≡◌, List, map, codes, IfOk};
-ghost use Rattle.scp_ledger.specs.declared.journal.Fate.{Fate};
+ghost use Rattle.scp_core.specs.scp_ledger.specs.declared.journal.Fate.{Fate};
 ghost use Rattle.serde_json.specs.Data.{string, array, object, member, no_members};
 ghost use Rattle.serde_json.specs.View.{view, items_of};
 ghost use Rattle.scp_words.specs.Words.{verdict_word, cause_word, drop_word};
@@ -11,9 +11,9 @@ ghost use Rattle.scp_report.specs.inside.Grouped.{fates_at};
 use crate::grouped::grouped;
 use crate::report::Parked;
 use crate::settled::{connections_of, number_of};
+use scp_core::below::types::ConnId;
+use scp_core::below::wire::Cause;
 use scp_core::{DropCause, Fate, Verdict};
-use scp_types::ConnId;
-use scp_wire::Cause;
 use scp_words::{word_of_cause, word_of_drop, word_of_verdict};
 use serde_json::{Value, json};
 use std::alloc::{AllocError, Global};

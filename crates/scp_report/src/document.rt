@@ -8,8 +8,8 @@ ghost use Rattle.scp_report.specs.Json.{count, json_of, state_json, document_of,
 use crate::applied::{applied_values, state_values};
 use crate::connections::connection_values;
 use crate::report::Report;
-use scp_kv::KvState;
-use scp_types::Fault;
+use scp_core::below::kv::KvState;
+use scp_core::below::types::Fault;
 use serde_json::{Value, json};
 use std::alloc::{AllocError, Global};
 

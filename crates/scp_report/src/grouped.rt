@@ -1,15 +1,15 @@
 //! The entries of a journal, grouped by connection.
 ghost use Rattle.std.specs.Prelude.{◌≡◌, ◌++◌, ◌∷◌, [], map, OnOk, IfOk, if◌then◌else◌};
 ghost use Rattle.std.specs.Ordering.{is_eq};
-ghost use Rattle.scp_types.specs.declared.names.ConnId.{ConnId};
-ghost use Rattle.scp_types.specs.Order.{conn_cmp};
-ghost use Rattle.scp_theorem.specs.Fates.{conn_of};
+ghost use Rattle.scp_core.specs.scp_types.specs.declared.names.ConnId.{ConnId};
+ghost use Rattle.scp_core.specs.scp_types.specs.Order.{conn_cmp};
+ghost use Rattle.scp_core.specs.scp_theorem.specs.Fates.{conn_of};
 ghost use Rattle.scp_report.specs.Json.{fates_on};
 ghost use Rattle.scp_report.specs.inside.Grouped.{fates_at};
 
 use crate::settled::conn_of_fate;
 use scp_core::Fate;
-use scp_types::ConnId;
+use scp_core::below::types::ConnId;
 use std::alloc::{AllocError, Global};
 use std::collections::BTreeMap;
 

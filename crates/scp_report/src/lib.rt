@@ -11,6 +11,7 @@
 #![tactic(auto)]
 
 mod applied;
+pub mod below;
 mod connections;
 mod document;
 mod grouped;

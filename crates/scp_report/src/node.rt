@@ -1,6 +1,6 @@
 //! The record of a node that takes one step after another, in a script or live.
 ghost use Rattle.std.specs.Prelude.{◌≡◌, ◌≤◌, IfOk, length, map, take};
-ghost use Rattle.scp_types.specs.declared.limits.TheConstants.{LINK_LIMIT, NODE_LIMIT};
+ghost use Rattle.scp_core.specs.scp_types.specs.declared.limits.TheConstants.{LINK_LIMIT, NODE_LIMIT};
 ghost use Rattle.scp_report.specs.Report.{view_of};
 ghost use Rattle.scp_report.specs.Node.{links_behind, report_of as record_of, reports_of as records_of};
 

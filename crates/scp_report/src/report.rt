@@ -1,10 +1,10 @@
 //! The record of a node, of which reports, accounts and notices are made.
 
+use scp_core::below::kv::KvState;
+use scp_core::below::quorum::QuorumSet;
+use scp_core::below::types::{ConnId, Hash, NodeId, Seq};
+use scp_core::below::wire::{Carried, LinkItem};
 use scp_core::{CommandFate, Fate, SharedDecision};
-use scp_kv::KvState;
-use scp_quorum::QuorumSet;
-use scp_types::{ConnId, Hash, NodeId, Seq};
-use scp_wire::{Carried, LinkItem};
 
 /// The messages of a connection that wait at a node; there is at least one.
 #[derive(Clone, Copy)]

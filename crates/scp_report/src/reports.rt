@@ -12,8 +12,8 @@ use crate::document::{document, value_of};
 use crate::report::Report;
 use crate::settled::write_settled;
 use crate::text::write_text;
+use scp_core::below::types::Fault;
 use scp_script::Command;
-use scp_types::Fault;
 use serde_json::Value;
 use std::alloc::{AllocError, Global};
 

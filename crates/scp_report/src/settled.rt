@@ -2,20 +2,20 @@
 ghost use Rattle.std.specs.Prelude.{◌≡◌, ◌++◌, [], List, OnOk, IfOk, string_bytes, flat_map, fold, if◌then◌else◌};
 ghost use Rattle.std.specs.Ordering.{is_eq};
 ghost use Rattle.std.specs.FinMap as map;
-ghost use Rattle.scp_types.specs.declared.names.ConnId.{ConnId};
+ghost use Rattle.scp_core.specs.scp_types.specs.declared.names.ConnId.{ConnId};
 ghost use Rattle.std.specs.BTreeSet.{insert_key};
-ghost use Rattle.scp_ledger.specs.declared.journal.Fate.{Fate};
-ghost use Rattle.scp_theorem.specs.Fates.{conn_of};
-ghost use Rattle.scp_types.specs.Order.{conn_cmp};
+ghost use Rattle.scp_core.specs.scp_ledger.specs.declared.journal.Fate.{Fate};
+ghost use Rattle.scp_core.specs.scp_theorem.specs.Fates.{conn_of};
+ghost use Rattle.scp_core.specs.scp_types.specs.Order.{conn_cmp};
 ghost use Rattle.scp_report.specs.declared.report.Parked.{Parked};
 ghost use Rattle.scp_report.specs.Report.{view_of};
 ghost use Rattle.scp_report.specs.Settled.{fate_line, parked_line, parked_lines, node_number, origin_words, applied_line, state_line, conns_of, conn_line, fate_lines, section_of, settled_of, AreConnections};
 ghost use Rattle.scp_report.specs.inside.Sections.{lines_at};
 
 use crate::report::{Parked, Report};
+use scp_core::below::kv::KvState;
+use scp_core::below::types::{ConnId, NodeId};
 use scp_core::{Decision, Fate, Origin, SharedDecision};
-use scp_kv::KvState;
-use scp_types::{ConnId, NodeId};
 use scp_words::{word_of_cause, word_of_drop, word_of_verdict, write_hex};
 use std::alloc::{AllocError, Global};
 use std::collections::{BTreeMap, BTreeSet};

@@ -8,10 +8,10 @@ ghost use Rattle.scp_report.specs.Text.{has_equals, key_text, applied_text_line,
 
 use crate::report::Report;
 use crate::settled::{write_origin, write_sections};
+use scp_core::below::kv::KvState;
+use scp_core::below::types::{Fault, Value};
 use scp_core::{Decision, SharedDecision};
-use scp_kv::KvState;
 use scp_text::{Term, write_bytes};
-use scp_types::{Fault, Value};
 use std::alloc::AllocError;
 
 /// Whether one of the bytes is `=`.

@@ -1,11 +1,11 @@
 //! What a node holds, connection by connection.
 ghost use Rattle.std.specs.Prelude.{◌≡◌, ◌≤◌, ◌++◌, IfOk, OnOk, length, take};
-ghost use Rattle.scp_types.specs.declared.limits.TheConstants.{LINK_LIMIT};
+ghost use Rattle.scp_core.specs.scp_types.specs.declared.limits.TheConstants.{LINK_LIMIT};
 ghost use Rattle.scp_report.specs.Waiting.{parked_of, parked_in, parked_over};
 
 use crate::report::Parked;
 use scp_core::Node;
-use scp_types::{ConnId, LINK_LIMIT, NodeId};
+use scp_core::below::types::{ConnId, LINK_LIMIT, NodeId};
 use std::alloc::{AllocError, Global};
 
 /// Adds how many messages of a connection the node holds, if any.

@@ -13,19 +13,19 @@ use Rattle.std.proofs.lemmas.List.{map_push, length-append, length-map}
 use Rattle.std.proofs.lemmas.List.Folds.{list_any-append}
 use Rattle.std.proofs.lemmas.List.Sums.{sum_by-cons}
 use Rattle.std.proofs.lemmas.List.Elements.{All-head, All-tail, All-cons, All-nil, All-append}
-use Rattle.scp_types.specs.declared.limits.TheConstants.{NODE_LIMIT}
-use Rattle.scp_types.specs.declared.names.NodeId.{NodeId}
-use Rattle.scp_types.specs.declared.fault.Fault.{Fault}
-use Rattle.scp_xdr.specs.Kind.{Values, Fits}
-use Rattle.scp_xdr.specs.Length.{padded_len, spelled_len}
-use Rattle.scp_xdr.specs.Shared.{node_kind, node_value}
-use Rattle.scp_xdr.specs.Reading.{reading_whole}
-use Rattle.scp_xdr.proofs.Lengths.{length_is}
-use Rattle.scp_quorum.specs.NodeSet.{node_cmp}
-use Rattle.scp_quorum.specs.QuorumTree.{QuorumTree}
-use Rattle.scp_quorum.specs.QuorumKind.{set_kind, set_value}
-use Rattle.scp_quorum.specs.Sane.{IsSane}
-use Rattle.scp_quorum.proofs.SetValues.{set_again}
+use Rattle.scp_wire.specs.scp_types.specs.declared.limits.TheConstants.{NODE_LIMIT}
+use Rattle.scp_wire.specs.scp_types.specs.declared.names.NodeId.{NodeId}
+use Rattle.scp_wire.specs.scp_types.specs.declared.fault.Fault.{Fault}
+use Rattle.scp_wire.specs.scp_xdr.specs.Kind.{Values, Fits}
+use Rattle.scp_wire.specs.scp_xdr.specs.Length.{padded_len, spelled_len}
+use Rattle.scp_wire.specs.scp_xdr.specs.Shared.{node_kind, node_value}
+use Rattle.scp_wire.specs.scp_xdr.specs.Reading.{reading_whole}
+use Rattle.scp_wire.specs.scp_xdr.proofs.Lengths.{length_is}
+use Rattle.scp_wire.specs.scp_quorum.specs.NodeSet.{node_cmp}
+use Rattle.scp_wire.specs.scp_quorum.specs.QuorumTree.{QuorumTree}
+use Rattle.scp_wire.specs.scp_quorum.specs.QuorumKind.{set_kind, set_value}
+use Rattle.scp_wire.specs.scp_quorum.specs.Sane.{IsSane}
+use Rattle.scp_wire.specs.scp_quorum.proofs.SetValues.{set_again}
 use Rattle.scp_script.specs.declared.command.Command.{Command}
 use Rattle.scp_script.specs.declared.command.Command.TheVariants.{Caps, Nodes, Set, Open, Close, Send, Propose, Round, Timer, Tick, Ask, Settle, Wait, Report}
 use Rattle.scp_script.specs.Words.{set_in}

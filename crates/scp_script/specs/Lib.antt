@@ -1,3 +1,6 @@
+pub use Rattle.scp_wire.specs.scp_types
+pub use Rattle.scp_wire.specs.scp_quorum
+pub use Rattle.scp_wire
 pub use Rattle.scp_device
 pub mod Words
 pub mod Script

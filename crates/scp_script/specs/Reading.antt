@@ -1,6 +1,6 @@
 -- A script that is being read.
 use Rattle.std.specs.Prelude.{◌≡◌, ℕ, ◌*◌, ◌+◌, ◌-◌, Bool, true, false, Result, Ok, Err, All, List, ◌++◌, IfSome, option_to_list, get_or}
-use Rattle.scp_types.specs.declared.limits.TheConstants.{NODE_LIMIT}
+use Rattle.scp_wire.specs.scp_types.specs.declared.limits.TheConstants.{NODE_LIMIT}
 use Rattle.scp_script.specs.declared.reading.Reading.{Reading}
 use Rattle.scp_script.specs.declared.known.Known.{Known}
 use Rattle.scp_script.specs.declared.links.Links.{Links}

@@ -2,9 +2,9 @@
 use Rattle.std.specs.Prelude.{◌≡◌, ◌⊎◌, ◌==◌, ℕ, ◌+◌, Bool, true, false, not, ◌&&◌, List, [], ◌∷◌, length, Option, Some, None, is_some, if◌then◌else◌, nat_eq, nat_lt, nat_le, codes, slice_get}
 use Rattle.std.specs.Option.{unwrap_or}
 use Rattle.std.specs.List.{slice_split}
-use Rattle.scp_types.specs.declared.limits.TheConstants.{LIFE_LIMIT, NODE_LIMIT}
-use Rattle.scp_quorum.specs.QuorumTree.{QuorumTree}
-use Rattle.scp_quorum.specs.Sane.{IsSane}
+use Rattle.scp_wire.specs.scp_types.specs.declared.limits.TheConstants.{LIFE_LIMIT, NODE_LIMIT}
+use Rattle.scp_wire.specs.scp_quorum.specs.QuorumTree.{QuorumTree}
+use Rattle.scp_wire.specs.scp_quorum.specs.Sane.{IsSane}
 use Rattle.scp_script.specs.declared.command.Command.{Command}
 use Rattle.scp_device.specs.declared.bad.Expected.{Expected}
 use Rattle.scp_device.specs.declared.bad.Expected.TheVariants.{Ascii, NoMark, NoReturn, NoTab, OneSpace, AVerb, NodesFirst, NodesOnce, CapsFirst, SetsFirst, ACapacity, ACount, AThreshold, ANode, AnotherNode, ASlot, ANumber, Digits, ASet, ASaneSet, NoMore, AClosedLink, FewerLives, AnOpenLink}

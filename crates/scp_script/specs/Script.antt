@@ -1,11 +1,11 @@
 -- What a script says (this project's profile): the command of each line, which commands may follow others, and which line is bad.
 use Rattle.std.specs.Prelude.{ℕ, ◌-◌, ◌<◌, ◌≤◌, ◌≡◌, ◌≢◌, Bool, true, false, ◌&&◌, ◌||◌, List, [], ◌∷◌, ◌++◌, length, take, flat_map, fold, count_by, Option, Some, None, is_some, option_map, option_to_list, if◌then◌else◌, nat_eq, nat_le, codes}
 use Rattle.std.specs.List.{list_any, list_all}
-use Rattle.scp_types.specs.declared.limits.TheConstants.{LIFE_LIMIT}
-use Rattle.scp_types.specs.declared.fault.Fault.{Fault}
-use Rattle.scp_types.specs.declared.fault.Fault.TheVariants.{NoMemory, BadScript}
-use Rattle.scp_quorum.specs.QuorumTree.{QuorumTree}
-use Rattle.scp_quorum.specs.Sane.{IsSane}
+use Rattle.scp_wire.specs.scp_types.specs.declared.limits.TheConstants.{LIFE_LIMIT}
+use Rattle.scp_wire.specs.scp_types.specs.declared.fault.Fault.{Fault}
+use Rattle.scp_wire.specs.scp_types.specs.declared.fault.Fault.TheVariants.{NoMemory, BadScript}
+use Rattle.scp_wire.specs.scp_quorum.specs.QuorumTree.{QuorumTree}
+use Rattle.scp_wire.specs.scp_quorum.specs.Sane.{IsSane}
 use Rattle.scp_script.specs.declared.command.Command.{Command}
 use Rattle.scp_script.specs.declared.command.Command.TheVariants.{Caps, Nodes, Set, Open, Close, Send, Propose, Round, Timer, Tick, Ask, Settle, Wait, Report}
 use Rattle.scp_script.specs.Words.{lines_of, is_ascii, is_skipped, words_of, same, node_in, link_in, number_in, capacity_in, hex_bytes, set_in}

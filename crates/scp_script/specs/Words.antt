@@ -5,11 +5,11 @@ use Rattle.std.specs.Cmp.Lexicographic.{pointwise}
 use Rattle.std.specs.Fmt.{decimal}
 use Rattle.std.specs.Str.Parse.{digits_value}
 use Rattle.std.specs.List.{slice_split, list_all}
-use Rattle.scp_types.specs.declared.limits.TheConstants.{CAPACITY_LIMIT}
+use Rattle.scp_wire.specs.scp_types.specs.declared.limits.TheConstants.{CAPACITY_LIMIT}
 use Rattle.hex.specs.Hex.{decode_of}
-use Rattle.scp_xdr.specs.Reading.{reading_whole}
-use Rattle.scp_quorum.specs.QuorumTree.{QuorumTree}
-use Rattle.scp_quorum.specs.QuorumKind.{set_kind, quorum_set_of}
+use Rattle.scp_wire.specs.scp_xdr.specs.Reading.{reading_whole}
+use Rattle.scp_wire.specs.scp_quorum.specs.QuorumTree.{QuorumTree}
+use Rattle.scp_wire.specs.scp_quorum.specs.QuorumKind.{set_kind, quorum_set_of}
 
 -- the lines of a text; the last may end without a line feed
 abbrev pub lines_of : List ℕ → List (List ℕ)

@@ -1,8 +1,8 @@
 //! What a line of a script says.
 
-use scp_quorum::QuorumSet;
-use scp_types::{Capacities, Value};
 use scp_wire::Bytes;
+use scp_wire::below::quorum::QuorumSet;
+use scp_wire::below::types::{Capacities, Value};
 
 /// What a line of a script says. Nodes are named by their numbers, 1 to 8. A link is named by the node that it goes from and the node
 /// that it goes to, which is another one.

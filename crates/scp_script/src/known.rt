@@ -8,7 +8,7 @@ ghost use Rattle.scp_script.specs.Reading.{KnowsLinks, Knows};
 
 use crate::command::Command;
 use crate::links::{Link, Links};
-use scp_types::LIFE_LIMIT;
+use scp_wire::below::types::LIFE_LIMIT;
 
 /// What is known of a script that is being read.
 #[derive(Drop)]

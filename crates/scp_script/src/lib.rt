@@ -8,6 +8,7 @@
 //! - `bytes_of` returns the bytes that a word of hex digits encodes.
 #![tactic(auto)]
 
+pub mod below;
 mod bytes;
 mod command;
 mod judging;

@@ -8,8 +8,8 @@ ghost use Rattle.scp_script.specs.declared.command.Command.TheVariants.{Tick, Re
 
 use crate::command::Command;
 use crate::words::{are_digits, bytes_of, capacity, link, node, number, set_of, value_of};
-use scp_types::{Capacities, Fault, Value};
 use scp_wire::Bytes;
+use scp_wire::below::types::{Capacities, Fault, Value};
 use std::alloc::Global;
 
 /// A `tick` line.

@@ -5,7 +5,7 @@ ghost use Rattle.scp_script.specs.Script.{is_link};
 ghost use Rattle.scp_script.specs.Nodes.{IsSmall};
 ghost use Rattle.scp_script.specs.Reading.{at, place, no_link, KnowsLinks};
 
-use scp_types::NODE_LIMIT;
+use scp_wire::below::types::NODE_LIMIT;
 
 /// What is known of a link.
 #[derive(Clone, Copy)]

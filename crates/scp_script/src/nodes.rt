@@ -1,13 +1,13 @@
 //! The nodes of a script.
 ghost use Rattle.std.specs.Prelude.{◌≡◌, ◌≤◌, [], All, IfOk, IsOkUnless, map, option_to_list};
-ghost use Rattle.scp_types.specs.declared.limits.TheConstants.{NODE_LIMIT};
-ghost use Rattle.scp_quorum.specs.Sane.{IsSane};
+ghost use Rattle.scp_wire.specs.scp_types.specs.declared.limits.TheConstants.{NODE_LIMIT};
+ghost use Rattle.scp_wire.specs.scp_quorum.specs.Sane.{IsSane};
 ghost use Rattle.scp_script.specs.Script.{node_count, AreAdmitted, IsNode};
 ghost use Rattle.scp_script.specs.Nodes.{NamesNodes, IsSmall, id_of, numbers, peers_of, of_all, set_given, set_at, capacities_in};
 
 use crate::command::Command;
-use scp_quorum::QuorumSet;
-use scp_types::{Capacities, Fault, NodeId};
+use scp_wire::below::quorum::QuorumSet;
+use scp_wire::below::types::{Capacities, Fault, NodeId};
 use std::alloc::{AllocError, Global};
 
 /// The id of a node: 32 bytes, each of which is its number.

@@ -7,7 +7,7 @@ use crate::command::Command;
 use crate::judging::first_bad_line;
 use crate::reading::Reading;
 use crate::words::lines;
-use scp_types::Fault;
+use scp_wire::below::types::Fault;
 use std::alloc::Global;
 
 /// Reads a script, line by line.

@@ -13,7 +13,7 @@ use crate::line::command_from;
 use crate::reason::{Verb, kinds_of, misplaced, verb_of, word_at, wrong_word};
 use crate::words::{ascii, link, skipped, words};
 use scp_device::{BadWord, Expected};
-use scp_types::{Fault, LIFE_LIMIT};
+use scp_wire::below::types::{Fault, LIFE_LIMIT};
 use std::alloc::{AllocError, Global};
 
 /// What was read of a script so far.

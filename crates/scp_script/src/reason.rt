@@ -5,7 +5,7 @@ ghost use Rattle.scp_script.specs.Reasons.{verb_in, kinds_in, order_fault, if_no
 
 use crate::words::{bytes_of, capacity, node, number, set_of};
 use scp_device::{BadWord, Expected};
-use scp_types::{Fault, NODE_LIMIT};
+use scp_wire::below::types::{Fault, NODE_LIMIT};
 use std::alloc::{AllocError, Global};
 
 /// The first word of a line.

@@ -8,9 +8,9 @@ ghost use Rattle.scp_script.specs.Nodes.{IsSmall};
 use arrayvec::ArrayVec;
 use hex::FromHexError;
 use itoa::Buffer;
-use scp_quorum::QuorumSet;
-use scp_types::{CAPACITY_LIMIT, Fault, Value};
 use scp_wire::Bytes;
+use scp_wire::below::quorum::QuorumSet;
+use scp_wire::below::types::{CAPACITY_LIMIT, Fault, Value};
 use std::alloc::{AllocError, Global};
 use std::str;
 

@@ -12,8 +12,8 @@ use Rattle.scp_script.specs.Nodes.{NamesNodes}
 use Rattle.scp_script.specs.inside.Reading.{HasRead}
 use Rattle.scp_script.specs.Reading.{IsReading, Stands}
 use Rattle.scp_script.proofs.Lines.{reads-more, lines-more}
-use Rattle.scp_device.specs.declared.bad.ReadFault.{ReadFault}
-use Rattle.scp_device.specs.declared.bad.ReadFault.TheVariants as faults
+use Rattle.scp_script.specs.scp_device.specs.declared.bad.ReadFault.{ReadFault}
+use Rattle.scp_script.specs.scp_device.specs.declared.bad.ReadFault.TheVariants as faults
 use Rattle.scp_script_check.specs.Lines.{numbers_of, IsSaid, IsBad, IsReason}
 use Rattle.scp_script_check.specs.inside.Lines.{IsTaken, IsPlaced, IsFound}
 

@@ -12,7 +12,7 @@ use Rattle.scp_script.specs.Script.{is_link}
 use Rattle.scp_script.specs.Nodes.{numbers}
 use Rattle.scp_script.specs.Reasons.{or_else}
 use Rattle.scp_script_check.specs.declared.warned.Before.{Before}
-use Rattle.scp_wire.specs.Message.{message_reading}
+use Rattle.scp_script.specs.scp_wire.specs.Message.{message_reading}
 use Rattle.scp_script_check.specs.declared.warning.Warning.{Warning}
 use Rattle.scp_script_check.specs.declared.warning.Warning.TheVariants.{Driven, Unled, BadValue}
 use Rattle.scp_script_check.specs.Nodes.{acts_on, settles_them, sends_on, proposes_for, is_list, speaks_in}

@@ -4,11 +4,11 @@ use Rattle.std.specs.Prelude.{OnOk, IfErr, IsErrOf}
 use Rattle.std.specs.List.{list_any, list_all}
 use Rattle.std.proofs.lemmas.List.{take_all, take-append-drop, length-take-le}
 use Rattle.std.proofs.lemmas.List.Folds.{list_any-append, list_all-append}
-use Rattle.scp_types.specs.declared.fault.Fault.{Fault}
-use Rattle.scp_types.specs.declared.fault.Fault.TheVariants as fault
-use Rattle.scp_device.specs.declared.bad.BadWord.{BadWord}
-use Rattle.scp_device.specs.declared.bad.WordFault.TheVariants.{Bad}
-use Rattle.scp_text.specs.Messages.{words_of}
+use Rattle.scp_nominate.specs.scp_types.specs.declared.fault.Fault.{Fault}
+use Rattle.scp_nominate.specs.scp_types.specs.declared.fault.Fault.TheVariants as fault
+use Rattle.scp_script.specs.scp_device.specs.declared.bad.BadWord.{BadWord}
+use Rattle.scp_script.specs.scp_device.specs.declared.bad.WordFault.TheVariants.{Bad}
+use Rattle.scp_script_text.specs.scp_text.specs.Messages.{words_of}
 use Rattle.scp_script_text.specs.declared.nodes.Carried.{Carried}
 use Rattle.scp_script_text.specs.declared.script.Form.TheVariants.{Hex}
 use Rattle.scp_script_text.specs.Lines.{carried_in}

@@ -1,4 +1,4 @@
-pub use Rattle.scp_device
+pub use Rattle.scp_script_text
 pub mod Lines
 pub mod Nodes
 pub mod Warnings

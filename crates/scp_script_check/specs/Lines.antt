@@ -1,11 +1,11 @@
 -- The lines of a script, in hex digits or as text, and the first bad one (this project's profile).
 use Rattle.std.specs.Prelude.{◌≡◌, ◌⊎◌, ℕ, ◌+◌, true, List, [], ◌∷◌, ◌++◌, length, map, take, Option, Some, None, option_to_list}
 use Rattle.std.specs.List.{list_any}
-use Rattle.scp_device.specs.declared.bad.BadWord.{BadWord}
-use Rattle.scp_device.specs.declared.bad.BadLine.{BadLine}
-use Rattle.scp_device.specs.declared.bad.WordFault.TheVariants.{Bad}
-use Rattle.scp_device.specs.declared.bad.ReadFault.{ReadFault}
-use Rattle.scp_device.specs.declared.bad.ReadFault.TheVariants as faults
+use Rattle.scp_script.specs.scp_device.specs.declared.bad.BadWord.{BadWord}
+use Rattle.scp_script.specs.scp_device.specs.declared.bad.BadLine.{BadLine}
+use Rattle.scp_script.specs.scp_device.specs.declared.bad.WordFault.TheVariants.{Bad}
+use Rattle.scp_script.specs.scp_device.specs.declared.bad.ReadFault.{ReadFault}
+use Rattle.scp_script.specs.scp_device.specs.declared.bad.ReadFault.TheVariants as faults
 use Rattle.scp_script_text.specs.declared.script.Form.TheVariants.{Hex}
 use Rattle.scp_script_text.specs.Scripts.{lines_of, carries, IsLineOf, IsNoLineOf, AreLinesOf}
 use Rattle.scp_script.specs.declared.command.Command.{Command}

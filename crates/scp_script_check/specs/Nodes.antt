@@ -1,7 +1,7 @@
 -- Which nodes of a script speak, and what its commands do (this project's profile).
 use Rattle.std.specs.Prelude.{ℕ, Bool, true, false, not, ◌&&◌, ◌||◌, List, nat_eq, is_some}
 use Rattle.std.specs.List.{list_any}
-use Rattle.scp_kv.specs.Op.{ops_in}
+use Rattle.scp_nominate.specs.scp_kv.specs.Op.{ops_in}
 use Rattle.scp_script.specs.declared.command.Command.{Command}
 use Rattle.scp_script.specs.declared.command.Command.TheVariants.{Open, Close, Send, Propose, Round, Timer, Tick, Ask, Settle, Wait, Report}
 use Rattle.scp_script.specs.Script.{is_link}

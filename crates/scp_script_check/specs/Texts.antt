@@ -1,7 +1,7 @@
 -- The lines that report what is wrong with a script.
 use Rattle.std.specs.Prelude.{◌≡◌, ℕ, List, ◌++◌, flat_map, codes}
 use Rattle.std.specs.Fmt.{decimal}
-use Rattle.scp_text.specs.Sets.{node_text}
+use Rattle.scp_script_text.specs.scp_text.specs.Sets.{node_text}
 use Rattle.scp_script.specs.declared.command.Command.{Command}
 use Rattle.scp_script_check.specs.Lines.{IsSaid}
 use Rattle.scp_script_check.specs.Warnings.{AreWarnings}

@@ -2,12 +2,12 @@
 use Rattle.std.specs.Prelude.{◌≡◌, ◌≤◌, ℕ, ◌+◌, ◌-◌, Bool, not, ◌&&◌, List, [], ◌∷◌, ◌++◌, map, flat_map, length, min, count_by, get_or, Option, Some, None, option_to_list, slice_get, Result, Ok, Err, if◌then◌else◌, nat_eq}
 use Rattle.std.specs.List.{list_any}
 use Rattle.std.specs.Cmp.Lexicographic.{pointwise}
-use Rattle.scp_types.specs.declared.names.NodeId.{NodeId}
-use Rattle.scp_types.specs.declared.fault.Fault.{Fault}
-use Rattle.scp_types.specs.declared.fault.Fault.TheVariants as faults
-use Rattle.scp_driver.specs.Kv.{leader_place}
+use Rattle.scp_nominate.specs.scp_types.specs.declared.names.NodeId.{NodeId}
+use Rattle.scp_nominate.specs.scp_types.specs.declared.fault.Fault.{Fault}
+use Rattle.scp_nominate.specs.scp_types.specs.declared.fault.Fault.TheVariants as faults
+use Rattle.scp_nominate.specs.scp_driver.specs.Kv.{leader_place}
 use Rattle.scp_nominate.specs.Turns.{AreInTurn}
-use Rattle.scp_wire.specs.Message.{message_reading}
+use Rattle.scp_script.specs.scp_wire.specs.Message.{message_reading}
 use Rattle.scp_script.specs.declared.command.Command.{Command}
 use Rattle.scp_script.specs.declared.command.Command.TheVariants.{Send, Propose}
 use Rattle.scp_script.specs.Script.{node_count, opens}

@@ -9,6 +9,7 @@
 //!   order.
 #![tactic(auto)]
 
+pub mod below;
 mod linting;
 mod nodes;
 mod proposals;
@@ -21,7 +22,7 @@ mod warning;
 pub use linting::lint;
 pub use nodes::is_scripted;
 pub use reading::{Script, read};
-pub use scp_device::{BadLine, BadWord, ReadFault};
+pub use scp_script::below::device::{BadLine, BadWord, ReadFault};
 pub use text::text_of_warnings;
 pub use warned::warnings;
 pub use warning::Warning;

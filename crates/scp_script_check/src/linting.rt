@@ -10,8 +10,8 @@ ghost use Rattle.scp_script_check.specs.Warnings.{AreWarnings};
 use crate::reading::{Script, read};
 use crate::text::text_of_warnings;
 use crate::warned::warnings;
-use scp_device::ReadFault;
-use scp_types::Fault;
+use scp_nominate::below::types::Fault;
+use scp_script::below::device::ReadFault;
 use std::alloc::Global;
 
 /// The lines of a script's warnings, and `ok`.

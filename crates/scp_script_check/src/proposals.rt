@@ -11,9 +11,9 @@ ghost use Rattle.scp_script_check.specs.inside.Led.{leads_by};
 ghost use Rattle.scp_script_check.specs.Warnings.{leads_own, is_led};
 
 use crate::turns::{Turn, leads, turn_at};
-use scp_kv::is_ops;
+use scp_nominate::below::kv::is_ops;
+use scp_nominate::below::types::NodeId;
 use scp_script::{Command, id_from};
-use scp_types::NodeId;
 use std::alloc::{AllocError, Global};
 use std::collections::{BTreeMap, BTreeSet};
 

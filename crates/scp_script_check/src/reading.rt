@@ -1,21 +1,21 @@
 //! A script, line by line, in hex digits or as text.
 ghost use Rattle.std.specs.Prelude.{◌≡◌, ◌∷◌, ◌++◌, [], map, take, not, All, IfOk, IfErr, OnOk, if◌then◌else◌};
 ghost use Rattle.std.specs.List.{list_any};
-ghost use Rattle.scp_device.specs.declared.bad.WordFault.TheVariants.{Bad};
+ghost use Rattle.scp_script.specs.scp_device.specs.declared.bad.WordFault.TheVariants.{Bad};
 ghost use Rattle.scp_script_text.specs.declared.script.Form.TheVariants.{Hex};
 ghost use Rattle.scp_script_text.specs.Scripts.{lines_of, carries as does_carry, IsLineOf, IsNoLineOf};
 ghost use Rattle.scp_script.specs.Script.{AreAdmitted, IsBadLine};
 ghost use Rattle.scp_script.specs.Nodes.{NamesNodes};
 ghost use Rattle.scp_script.specs.Reading.{IsReading};
-ghost use Rattle.scp_device.specs.declared.bad.ReadFault.TheVariants.{NoMemory};
+ghost use Rattle.scp_script.specs.scp_device.specs.declared.bad.ReadFault.TheVariants.{NoMemory};
 ghost use Rattle.scp_script_check.specs.Lines.{IsSaid, IsBad, IsReason, IsNotRead};
 ghost use Rattle.scp_script_check.specs.inside.Lines.{IsPlaced, IsTaken, IsFound, bad_line_of};
 
-use scp_device::{BadLine, BadWord, ReadFault, WordFault};
+use scp_nominate::below::types::Fault;
+use scp_script::below::device::{BadLine, BadWord, ReadFault, WordFault};
+use scp_script::below::wire::Bytes;
 use scp_script::{Command, Reading, odd_bytes, parse, skipped};
 use scp_script_text::{Form, carries, line_in};
-use scp_types::Fault;
-use scp_wire::Bytes;
 use std::alloc::{AllocError, Global};
 
 /// The commands of a script, and the number of each one's line, from 1 on.

@@ -4,8 +4,8 @@ ghost use Rattle.std.specs.Fmt.{decimal};
 ghost use Rattle.scp_script_check.specs.Texts.{warning_text, warnings_text};
 
 use crate::warning::Warning;
-use scp_text::Term;
-use scp_types::{Fault, NodeId};
+use scp_nominate::below::types::{Fault, NodeId};
+use scp_script_text::below::text::Term;
 use std::alloc::{AllocError, Global};
 
 /// The line that warns of a line in these words.

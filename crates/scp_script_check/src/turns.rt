@@ -5,11 +5,11 @@ ghost use Rattle.scp_script.specs.Nodes.{NamesNodes};
 ghost use Rattle.scp_nominate.specs.Turns.{AreInTurn};
 ghost use Rattle.scp_script_check.specs.Warnings.{AreTurns, has_node as holds_node, leader_of, leads_in, turn_of};
 
-use scp_driver::place_of;
+use scp_nominate::below::driver::place_of;
+use scp_nominate::below::quorum::QuorumSet;
+use scp_nominate::below::types::{Fault, NodeId, Slot};
 use scp_nominate::nodes_with;
-use scp_quorum::QuorumSet;
 use scp_script::{Command, id_from, set_of_node};
-use scp_types::{Fault, NodeId, Slot};
 use std::alloc::Global;
 use std::marker::Model;
 
@@ -19,7 +19,7 @@ pub struct Turn(Vec<NodeId>);
 
 impl Model for Turn {
     ghost use Rattle.std.specs.Prelude.{List};
-    ghost use Rattle.scp_types.specs.declared.names.NodeId.{NodeId};
+    ghost use Rattle.scp_nominate.specs.scp_types.specs.declared.names.NodeId.{NodeId};
 
     ghost Value = { List NodeId };
 

@@ -2,7 +2,7 @@
 ghost use Rattle.std.specs.Prelude.{◌≡◌, ◌≤◌, ◌∷◌, ◌++◌, [], ◌||◌, ◌&&◌, ℕ, not, nat_eq, All, IfOk, OnOk, IsOkUnless, option_to_list, if◌then◌else◌, List, flat_map};
 ghost use Rattle.std.specs.Ordering.{nat_cmp};
 ghost use Rattle.std.specs.BTreeSet as sorted;
-ghost use Rattle.scp_wire.specs.Message.{message_reading};
+ghost use Rattle.scp_script.specs.scp_wire.specs.Message.{message_reading};
 ghost use Rattle.scp_script.specs.Script.{is_link, node_count, AreAdmitted};
 ghost use Rattle.scp_script.specs.Nodes.{NamesNodes, numbers};
 ghost use Rattle.scp_script.specs.declared.command.Command.{Command};
@@ -17,10 +17,10 @@ use crate::proposals::led;
 use crate::reading::Script;
 use crate::turns::{Turn, has_node, leader, turn_at, turns};
 use crate::warning::Warning;
-use scp_kv::is_ops;
+use scp_nominate::below::kv::is_ops;
+use scp_nominate::below::types::{Fault, Value};
+use scp_script::below::wire::{Bytes, decode};
 use scp_script::{Command, count_of_nodes, id_from};
-use scp_types::{Fault, Value};
-use scp_wire::{Bytes, decode};
 use std::alloc::{AllocError, Global};
 use std::collections::BTreeSet;
 

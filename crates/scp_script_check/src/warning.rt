@@ -1,6 +1,6 @@
 //! The warnings of a script.
 
-use scp_types::NodeId;
+use scp_nominate::below::types::NodeId;
 
 /// What in a script hardly does what it was written for.
 #[derive(Clone, Copy, PartialEq, Eq)]

@@ -3,7 +3,7 @@ use Rattle.std.proofs.Common.{◌≡◌, ◌+◌, ◌-◌, ◌<◌, ℕ, zero, s
 use Rattle.std.specs.List.{list_any}
 use Rattle.std.specs.Cmp.Lexicographic.{pointwise}
 use Rattle.std.proofs.lemmas.List.Folds.{list_any-append}
-use Rattle.scp_types.specs.declared.names.NodeId.{NodeId}
+use Rattle.scp_script.specs.scp_types.specs.declared.names.NodeId.{NodeId}
 use Rattle.scp_script.specs.Nodes.{numbers, id_of}
 use Rattle.scp_script_hints.specs.Hints.{is_known}
 

@@ -5,16 +5,16 @@ use Rattle.std.specs.List.{flat_map}
 use Rattle.std.specs.BTreeSet.{BTreeSet}
 use Rattle.std.proofs.lemmas.Grind.{common_steps, flat_map-append}
 use Rattle.std.proofs.lemmas.List.{append-nil, map-append, take_more}
-use Rattle.scp_types.specs.declared.names.NodeId.{NodeId}
-use Rattle.scp_quorum.specs.NodeSet.{is_in}
-use Rattle.scp_quorum.specs.Satisfies.{AreDisjoint}
+use Rattle.scp_script.specs.scp_types.specs.declared.names.NodeId.{NodeId}
+use Rattle.scp_script.specs.scp_quorum.specs.NodeSet.{is_in}
+use Rattle.scp_script.specs.scp_quorum.specs.Satisfies.{AreDisjoint}
 use Rattle.scp_script.specs.declared.command.Command.{Command}
 use Rattle.scp_script.specs.Nodes.{id_of, numbers, set_at}
 use Rattle.scp_text.specs.Sets.{node_text}
 use Rattle.scp_script_hints.specs.declared.member.Member.{Member}
 use Rattle.scp_script_hints.specs.Quorums.{IsQuorumOf, Intersect}
-use Rattle.scp_script_hints.specs.Told.{nodes_text, TellsDisjoint, TellsHalting, TellAllHalting}
-use Rattle.scp_script_hints.specs.inside.Told.{next_text, none_text, found_text}
+use Rattle.scp_script_hints.specs.Told.{nodes_text, TellsApart, TellsDisjoint, TellsHalting, TellAllHalting}
+use Rattle.scp_script_hints.specs.inside.Told.{next_text, none_text, found_text, apart_text}
 
 -- the member of a number
 abbrev pub member_of : List Command → ℕ → Member
@@ -86,3 +86,9 @@ pub tells_found : (members : List Member) (found : Option (BTreeSet NodeId × BT
     → text ≡ found_text found → TellsDisjoint members text
 tells_found members None text one other apart none is = inl (none, is)
 tells_found members (Some two) text one other apart none is = inr (two.0, two.1, one, other, apart, is)
+
+pub tells_apart : (members : List Member) (found : Option (BTreeSet NodeId × BTreeSet NodeId)) (text : List ℕ)
+    → IfSome found (λ two. IsQuorumOf members (is_in two.0)) → IfSome found (λ two. IsQuorumOf members (is_in two.1)) → IfSome found (λ two. AreDisjoint (is_in two.0) (is_in two.1)) → IfNone found (Intersect members)
+    → text ≡ apart_text found → TellsApart members text
+tells_apart members None text one other apart none is = inl (none, is)
+tells_apart members (Some two) text one other apart none is = inr (two.0, two.1, one, other, apart, is)

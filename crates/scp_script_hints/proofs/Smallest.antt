@@ -3,9 +3,9 @@ use Rattle.std.proofs.Common.{◌≡◌, Bool, List, get_or, sym, ◌∙◌, sub
 use Rattle.std.specs.List.{All}
 use Rattle.std.specs.BTreeSet.{BTreeSet}
 use Rattle.std.proofs.Math.Path.{fun_ext}
-use Rattle.scp_types.specs.declared.names.NodeId.{NodeId}
-use Rattle.scp_quorum.specs.NodeSet.{is_in}
-use Rattle.scp_quorum.specs.Quorum.{IsWithin}
+use Rattle.scp_script.specs.scp_types.specs.declared.names.NodeId.{NodeId}
+use Rattle.scp_script.specs.scp_quorum.specs.NodeSet.{is_in}
+use Rattle.scp_script.specs.scp_quorum.specs.Quorum.{IsWithin}
 use Rattle.scp_script_hints.specs.declared.member.Member.{Member}
 use Rattle.scp_script_hints.specs.Quorums.{IsHalting, IsSmallestHalting, IsListed}
 use Rattle.scp_script_hints.specs.inside.Groups.{AreHalting, HasNoPart, IsPicked}

@@ -7,9 +7,9 @@ use Rattle.std.specs.BTreeSet.{BTreeSet, contains}
 use Rattle.std.proofs.Common.{inl, inr}
 use Rattle.std.proofs.lemmas.List.{at_drop_all}
 use Rattle.std.proofs.lemmas.List.Folds.{list_any-append}
-use Rattle.scp_types.specs.declared.names.NodeId.{NodeId}
-use Rattle.scp_quorum.specs.NodeSet.{is_in}
-use Rattle.scp_quorum.specs.Satisfies.{AreDisjoint}
+use Rattle.scp_script.specs.scp_types.specs.declared.names.NodeId.{NodeId}
+use Rattle.scp_script.specs.scp_quorum.specs.NodeSet.{is_in}
+use Rattle.scp_script.specs.scp_quorum.specs.Satisfies.{AreDisjoint}
 use Rattle.scp_script.specs.declared.command.Command.{Command}
 use Rattle.scp_script_hints.specs.declared.member.Member.{Member}
 use Rattle.scp_script_hints.specs.Quorums.{IsQuorumOf, Intersect}

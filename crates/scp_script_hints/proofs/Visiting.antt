@@ -4,8 +4,8 @@ use Rattle.std.specs.List.{Any, list_any}
 use Rattle.std.specs.BTreeMap.{is_at}
 use Rattle.std.specs.BTreeSet.{BTreeSet}
 use Rattle.std.proofs.lemmas.Bool.{or_cases}
-use Rattle.scp_types.specs.declared.names.NodeId.{NodeId}
-use Rattle.scp_quorum.specs.NodeSet.{node_cmp, is_in}
+use Rattle.scp_script.specs.scp_types.specs.declared.names.NodeId.{NodeId}
+use Rattle.scp_script.specs.scp_quorum.specs.NodeSet.{node_cmp, is_in}
 use Rattle.scp_script_hints.specs.declared.member.Member.{Member}
 use Rattle.scp_script_hints.specs.Quorums.{AreMembers}
 use Rattle.scp_script_hints.proofs.Every.{same_at}

@@ -2,10 +2,10 @@
 use Rattle.std.specs.Prelude.{◌≡◌, ◌<◌, ◌≤◌, ℕ, Bool, true, false, List, Option, Some, None, length, count_by}
 use Rattle.std.specs.List.{All, Any}
 use Rattle.std.specs.BTreeSet.{BTreeSet}
-use Rattle.scp_types.specs.declared.names.NodeId.{NodeId}
-use Rattle.scp_quorum.specs.NodeSet.{is_in}
-use Rattle.scp_quorum.specs.Satisfies.{Satisfies, AreDisjoint}
-use Rattle.scp_quorum.specs.Quorum.{IsWithin}
+use Rattle.scp_script.specs.scp_types.specs.declared.names.NodeId.{NodeId}
+use Rattle.scp_script.specs.scp_quorum.specs.NodeSet.{is_in}
+use Rattle.scp_script.specs.scp_quorum.specs.Satisfies.{Satisfies, AreDisjoint}
+use Rattle.scp_script.specs.scp_quorum.specs.Quorum.{IsWithin}
 use Rattle.scp_script_hints.specs.declared.member.Member.{Member}
 
 -- Each of the nodes is a member.

@@ -3,9 +3,9 @@ use Rattle.std.specs.Prelude.{◌≡◌, ◌⊎◌, ℕ, Bool, List, [], ◌∷�
 use Rattle.std.specs.Fmt.{decimal}
 use Rattle.std.specs.List.{All}
 use Rattle.std.specs.BTreeSet.{BTreeSet}
-use Rattle.scp_types.specs.declared.names.NodeId.{NodeId}
-use Rattle.scp_quorum.specs.NodeSet.{is_in}
-use Rattle.scp_quorum.specs.Satisfies.{AreDisjoint}
+use Rattle.scp_script.specs.scp_types.specs.declared.names.NodeId.{NodeId}
+use Rattle.scp_script.specs.scp_quorum.specs.NodeSet.{is_in}
+use Rattle.scp_script.specs.scp_quorum.specs.Satisfies.{AreDisjoint}
 use Rattle.scp_script_hints.specs.declared.member.Member.{Member}
 use Rattle.scp_script_hints.specs.Quorums.{IsQuorumOf, Intersect, IsSmallestHalting, IsListed, IsGreatestSurvived}
 use Rattle.scp_script.specs.declared.command.Command.{Command}
@@ -26,6 +26,13 @@ nodes_text (v ∷ vs) = node_text v ++ flat_map (λ w. codes "," ++ node_text w)
 abbrev pub TellsDisjoint : List Member → List ℕ → Type 0
 TellsDisjoint members text =
     (Intersect members × (text ≡ codes "intersect yes\n"))
+    ⊎ ((one other : BTreeSet NodeId) × IsQuorumOf members (is_in one) × IsQuorumOf members (is_in other) × AreDisjoint (is_in one) (is_in other)
+    × (text ≡ codes "disjoint " ++ nodes_text one.keys ++ codes " | " ++ nodes_text other.keys ++ codes "\n"))
+
+-- No text if each two quorums have a common node, or else the line with `disjoint` and two quorums that have none.
+abbrev pub TellsApart : List Member → List ℕ → Type 0
+TellsApart members text =
+    (Intersect members × (text ≡ []))
     ⊎ ((one other : BTreeSet NodeId) × IsQuorumOf members (is_in one) × IsQuorumOf members (is_in other) × AreDisjoint (is_in one) (is_in other)
     × (text ≡ codes "disjoint " ++ nodes_text one.keys ++ codes " | " ++ nodes_text other.keys ++ codes "\n"))
 

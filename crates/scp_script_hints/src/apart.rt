@@ -11,7 +11,7 @@ use crate::hint::Hint;
 use crate::member::Member;
 use crate::told::members_of;
 use scp_script::Command;
-use scp_types::{Fault, NodeId};
+use scp_script::below::types::{Fault, NodeId};
 use std::alloc::{AllocError, Global};
 use std::collections::BTreeSet;
 

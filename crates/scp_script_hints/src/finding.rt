@@ -1,15 +1,15 @@
 //! The quorums of some nodes, and two of them without a common node.
 ghost use Rattle.std.specs.Prelude.{◌≡◌, ◌↔◌, Bool, IfOk, IfNone, IfSome, IsTrue, true};
 ghost use Rattle.std.specs.List.{All, Any, Contains};
-ghost use Rattle.scp_types.specs.declared.names.NodeId.{NodeId};
-ghost use Rattle.scp_quorum.specs.NodeSet.{is_in};
-ghost use Rattle.scp_quorum.specs.Satisfies.{AreDisjoint, Satisfies};
+ghost use Rattle.scp_script.specs.scp_types.specs.declared.names.NodeId.{NodeId};
+ghost use Rattle.scp_script.specs.scp_quorum.specs.NodeSet.{is_in};
+ghost use Rattle.scp_script.specs.scp_quorum.specs.Satisfies.{AreDisjoint, Satisfies};
 ghost use Rattle.scp_script_hints.specs.Quorums.{AreMembers, SatisfyMembers, IsQuorumOf, Intersect, IsListed};
 
 use crate::groups::{copy_of, groups_of};
 use crate::member::Member;
-use scp_quorum::satisfied;
-use scp_types::NodeId;
+use scp_script::below::quorum::satisfied;
+use scp_script::below::types::NodeId;
 use std::alloc::{AllocError, Global};
 use std::collections::BTreeSet;
 

@@ -1,13 +1,13 @@
 //! All sets of some nodes.
 ghost use Rattle.std.specs.Prelude.{◌≡◌, ◌||◌, Bool, IfOk, OnOk, true};
 ghost use Rattle.std.specs.List.{All, Contains};
-ghost use Rattle.scp_types.specs.declared.names.NodeId.{NodeId};
-ghost use Rattle.scp_quorum.specs.NodeSet.{is_in};
+ghost use Rattle.scp_script.specs.scp_types.specs.declared.names.NodeId.{NodeId};
+ghost use Rattle.scp_script.specs.scp_quorum.specs.NodeSet.{is_in};
 ghost use Rattle.scp_script_hints.specs.Quorums.{AreMembers, IsListed};
 ghost use Rattle.scp_script_hints.specs.inside.Groups.{is_or_in};
 
 use crate::member::Member;
-use scp_types::NodeId;
+use scp_script::below::types::NodeId;
 use std::alloc::{AllocError, Global};
 use std::collections::BTreeSet;
 

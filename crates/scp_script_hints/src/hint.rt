@@ -1,6 +1,6 @@
 //! The hints on a script.
 
-use scp_types::NodeId;
+use scp_script::below::types::NodeId;
 use std::collections::BTreeSet;
 
 /// What in a script hardly works as it was meant, as far as its lines show it.

@@ -18,6 +18,7 @@
 
 mod apart;
 mod before;
+pub mod below;
 mod finding;
 mod groups;
 mod hint;
@@ -32,4 +33,4 @@ pub use hint::Hint;
 pub use lines::hints;
 pub use member::Member;
 pub use text::text_of_hints;
-pub use told::quorums_text;
+pub use told::{apart_text, quorums_text};

@@ -5,7 +5,7 @@ ghost use Rattle.std.specs.Ordering.{nat_cmp};
 ghost use Rattle.std.specs.BTreeSet as sorted;
 ghost use Rattle.scp_script.specs.Script.{AreAdmitted, node_count};
 ghost use Rattle.scp_script.specs.Nodes.{NamesNodes};
-ghost use Rattle.scp_quorum.specs.Sane.{all_nodes};
+ghost use Rattle.scp_script.specs.scp_quorum.specs.Sane.{all_nodes};
 ghost use Rattle.scp_script_hints.specs.Hints.{is_known, is_outside, unknown_hints, slot_hints, link_hints, command_hints, hints_behind, line_hints, AreHints};
 ghost use Rattle.scp_script_hints.specs.inside.Behind.{has_sent, KnowsBefore};
 
@@ -13,9 +13,9 @@ use crate::apart::apart;
 use crate::before::{Before, nothing};
 use crate::hint::Hint;
 use crate::nodes::is_quiet;
-use scp_quorum::QuorumSet;
+use scp_script::below::quorum::QuorumSet;
+use scp_script::below::types::{Fault, NodeId, WINDOW};
 use scp_script::{Command, count_of_nodes, id_from};
-use scp_types::{Fault, NodeId, WINDOW};
 use std::alloc::{AllocError, Global};
 
 /// The greatest slot that any window reaches.

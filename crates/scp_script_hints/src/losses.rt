@@ -1,17 +1,17 @@
 //! What the loss of nodes does to the others.
 ghost use Rattle.std.specs.Prelude.{◌≡◌, ◌↔◌, ◌<◌, ◌≤◌, ℕ, Bool, IfOk, IsTrue, true, false, count_by, length};
 ghost use Rattle.std.specs.List.{All, Any};
-ghost use Rattle.scp_types.specs.declared.names.NodeId.{NodeId};
-ghost use Rattle.scp_quorum.specs.NodeSet.{is_in};
-ghost use Rattle.scp_quorum.specs.Quorum.{IsWithin};
-ghost use Rattle.scp_quorum.specs.Satisfies.{AreDisjoint};
+ghost use Rattle.scp_script.specs.scp_types.specs.declared.names.NodeId.{NodeId};
+ghost use Rattle.scp_script.specs.scp_quorum.specs.NodeSet.{is_in};
+ghost use Rattle.scp_script.specs.scp_quorum.specs.Quorum.{IsWithin};
+ghost use Rattle.scp_script.specs.scp_quorum.specs.Satisfies.{AreDisjoint};
 ghost use Rattle.scp_script_hints.specs.Quorums.{AreMembers, IsListed, IsHalting, IsSmallestHalting, Survives, IsGreatestSurvived};
 ghost use Rattle.scp_script_hints.specs.inside.Groups.{AreQuorums, AreHalting, HasNoPart, IsPicked, Keeps, Keep, Withstand};
 
 use crate::finding::{are_members, quorums};
 use crate::groups::{copy_of, groups_of};
 use crate::member::Member;
-use scp_types::NodeId;
+use scp_script::below::types::NodeId;
 use std::alloc::{AllocError, Global};
 use std::collections::BTreeSet;
 

@@ -1,7 +1,7 @@
 //! The nodes whose quorums are asked for.
 
-use scp_quorum::QuorumSet;
-use scp_types::NodeId;
+use scp_script::below::quorum::QuorumSet;
+use scp_script::below::types::NodeId;
 
 /// A node and its quorum set.
 #[derive(Drop)]

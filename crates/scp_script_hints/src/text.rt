@@ -7,8 +7,8 @@ ghost use Rattle.scp_script_hints.specs.Texts.{hint_text, hints_text};
 
 use crate::hint::Hint;
 use crate::told::write_disjoint;
+use scp_script::below::types::{Fault, NodeId};
 use scp_text::Term;
-use scp_types::{Fault, NodeId};
 use std::alloc::{AllocError, Global};
 use std::collections::BTreeSet;
 

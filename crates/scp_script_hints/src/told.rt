@@ -1,18 +1,18 @@
 //! The report on the quorum sets of a script, in lines.
 ghost use Rattle.std.specs.Prelude.{◌≡◌, ◌++◌, ◌<◌, ℕ, List, [], All, IfOk, OnOk, IsOkUnless, codes, flat_map, string_bytes};
-ghost use Rattle.scp_types.specs.declared.names.NodeId.{NodeId};
+ghost use Rattle.scp_script.specs.scp_types.specs.declared.names.NodeId.{NodeId};
 ghost use Rattle.scp_script.specs.Script.{AreAdmitted};
 ghost use Rattle.scp_script.specs.Nodes.{NamesNodes};
 ghost use Rattle.scp_text.specs.Sets.{node_text};
-ghost use Rattle.scp_script_hints.specs.inside.Told.{next_text, none_text, found_text};
-ghost use Rattle.scp_script_hints.specs.Told.{members_in, nodes_text, TellsDisjoint, TellsHalting, TellAllHalting, TellsSurvived, TellsQuorums, halting_line};
+ghost use Rattle.scp_script_hints.specs.inside.Told.{next_text, none_text, found_text, apart_text};
+ghost use Rattle.scp_script_hints.specs.Told.{members_in, nodes_text, TellsApart, TellsDisjoint, TellsHalting, TellAllHalting, TellsSurvived, TellsQuorums, halting_line};
 
 use crate::finding::disjoint_quorums;
 use crate::losses::{smallest_halting, survived};
 use crate::member::Member;
+use scp_script::below::types::{Fault, NodeId};
 use scp_script::{Command, count_of_nodes, id_from, set_of_node};
 use scp_text::Term;
-use scp_types::{Fault, NodeId};
 use std::alloc::{AllocError, Global};
 use std::collections::BTreeSet;
 
@@ -113,6 +113,48 @@ fn disjoint_text(alloc: Global, members: &[Member]) -> Result<String, Fault>
 {
     let found = disjoint_quorums(alloc, members)?;
     let text = found_line(alloc, &found)?;
+    Ok(text)
+}
+
+/// The line of two quorums without a common node, or nothing.
+fn apart_line(
+    alloc: Global,
+    found: &Option<(BTreeSet<NodeId>, BTreeSet<NodeId>)>,
+) -> Result<String, Fault>
+    ensures text { IfOk result (λ text. string_bytes text ≡ apart_text found.now) }
+    ensures only_memory { IsOkUnless result Fault.NoMemory }
+{
+    match found {
+        None => Ok(String::new(alloc)),
+        Some((one, other)) => {
+            let mut line = String::new(alloc);
+            write_disjoint(&mut line, one, other)?;
+            Ok(line)
+        }
+    }
+}
+
+/// The line that shows two quorums of some nodes without a common node, or nothing.
+fn apart_of(alloc: Global, members: &[Member]) -> Result<String, Fault>
+    ensures tells { IfOk result (λ text. TellsApart members.now (string_bytes text)) }
+    ensures only_memory { IsOkUnless result Fault.NoMemory }
+{
+    let found = disjoint_quorums(alloc, members)?;
+    let text = apart_line(alloc, &found)?;
+    Ok(text)
+}
+
+/// The line that shows two quorums of a script's nodes without a common node. Nothing if each two quorums have one. The only error is
+/// `NoMemory`.
+pub fn apart_text(alloc: Global, commands: &[Command]) -> Result<String, Fault>
+    requires names { All NamesNodes commands.now }
+    requires admitted { AreAdmitted [] commands.now }
+    ensures tells { IfOk result (λ text. TellsApart (members_in commands.now) (string_bytes text)) }
+    ensures only_memory { IsOkUnless result Fault.NoMemory }
+{
+    let members = members_of(alloc, commands)?;
+    let members = members.as_slice();
+    let text = apart_of(alloc, members)?;
     Ok(text)
 }
 

@@ -4,14 +4,14 @@ use Rattle.std.specs.Prelude.{◌==◌, not, nat_eq, nat_lt, ◌&&◌, if◌then
 use Rattle.std.specs.Fmt.{decimal, digits, digits_onto, digit_glyph}
 use Rattle.std.specs.List.{AllByRecursion}
 use Rattle.std.proofs.lemmas.Bool.Decides.{nat_tests}
-use Rattle.scp_types.specs.declared.limits.TheConstants.{WINDOW}
-use Rattle.scp_types.specs.declared.names.Slot.{Slot}
-use Rattle.scp_text.specs.Laws.{HasNo}
-use Rattle.scp_text.specs.Messages.{words_of}
+use Rattle.scp_script_text.specs.scp_types.specs.declared.limits.TheConstants.{WINDOW}
+use Rattle.scp_script_text.specs.scp_types.specs.declared.names.Slot.{Slot}
+use Rattle.scp_script_text.specs.scp_text.specs.Laws.{HasNo}
+use Rattle.scp_script_text.specs.scp_text.specs.Messages.{words_of}
 use Rattle.scp_script_text.specs.Scripts.{lines_of}
 use Rattle.scp_script_text.proofs.Marks.{parts_joined, parts_clear}
 use Rattle.scp_script_short.specs.declared.placed.PlacedLine.{PlacedLine}
-use Rattle.scp_text.specs.scp_device.specs.declared.bad.BadWord.{BadWord}
+use Rattle.scp_script_text.specs.scp_device.specs.declared.bad.BadWord.{BadWord}
 use Rattle.scp_script_short.specs.declared.shorthand.Shorthand.{Shorthand}
 use Rattle.scp_script_short.specs.declared.shorthand.Shorthand.TheVariants.{OpenAll, Rounds, CatchUp}
 use Rattle.scp_script_short.specs.Reading.{shorthand_in}

@@ -1,7 +1,7 @@
 -- Lines of an expanded script that are being written in digits.
 use Rattle.std.proofs.Common.{◌≡◌, ℕ, zero, suc, ◌+◌, ◌<◌, List, [], ◌∷◌, ◌++◌, length, take, drop, get_or, refl, sym, ◌∙◌, ap, arith, drop-cons}
-use Rattle.scp_text.specs.scp_device.specs.declared.bad.ReadFault.{ReadFault}
-use Rattle.scp_text.specs.scp_device.specs.declared.bad.ReadFault.TheVariants.{NoMemory, Bad, BadAt}
+use Rattle.scp_script_text.specs.scp_device.specs.declared.bad.ReadFault.{ReadFault}
+use Rattle.scp_script_text.specs.scp_device.specs.declared.bad.ReadFault.TheVariants.{NoMemory, Bad, BadAt}
 use Rattle.scp_script_short.specs.declared.placed.PlacedLine.{PlacedLine}
 use Rattle.scp_script_short.specs.Hexing.{AreDigits}
 use Rattle.scp_script_short.specs.inside.Hexing.{IsPlaced, IsTold, IsRefusedAmong}

@@ -3,7 +3,7 @@ use Rattle.std.proofs.Common.{◌≡◌, ◌+◌, ℕ, suc, Bool, true, false, n
 use Rattle.std.specs.Prelude.{if◌then◌else◌}
 use Rattle.std.proofs.lemmas.List.{map_push, flat_map_more}
 use Rattle.std.proofs.lemmas.List.Elements.{filter-append}
-use Rattle.scp_types.specs.declared.names.Slot.{Slot}
+use Rattle.scp_script_text.specs.scp_types.specs.declared.names.Slot.{Slot}
 use Rattle.scp_script_short.specs.Lines.{numbers, open_line, opens_of, round_line, round_of_each, rounds, ask_lines, asks}
 
 last_other : (f : ℕ → List ℕ) (b : Bool) (xs : List ℕ) (y : ℕ) → map f (xs ++ cond (not b) (y ∷ []) []) ≡ (if b then map f xs else map f xs ++ f y ∷ [])

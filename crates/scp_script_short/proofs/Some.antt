@@ -3,9 +3,9 @@ use Rattle.std.proofs.Common.{◌≡◌, ℕ, suc, Bool, true, false, List, [], 
 use Rattle.std.specs.Prelude.{◌==◌, cond, if◌then◌else◌, codes}
 use Rattle.std.specs.List.{onto_first}
 use Rattle.std.specs.Cmp.Lexicographic.{bytes_decides}
-use Rattle.scp_types.specs.declared.limits.TheConstants.{NODE_LIMIT}
-use Rattle.scp_text.specs.Pieces.{same}
-use Rattle.scp_text.specs.Messages.{words_of}
+use Rattle.scp_script_text.specs.scp_types.specs.declared.limits.TheConstants.{NODE_LIMIT}
+use Rattle.scp_script_text.specs.scp_text.specs.Pieces.{same}
+use Rattle.scp_script_text.specs.scp_text.specs.Messages.{words_of}
 use Rattle.scp_script_text.specs.Scripts.{lines_of}
 use Rattle.scp_script_short.specs.declared.placed.PlacedLine.{PlacedLine}
 use Rattle.scp_script_short.specs.Reading.{number_to, shorthand_by, shorthand_in}

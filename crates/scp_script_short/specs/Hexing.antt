@@ -1,6 +1,6 @@
 -- Scripts with shorthand, in hex digits (this project's profile).
 use Rattle.std.specs.Prelude.{◌≡◌, ◌⊎◌, ◌<◌, ◌≤◌, ℕ, List, [], ◌∷◌, ◌++◌, Option, Some, None}
-use Rattle.scp_text.specs.scp_device.specs.declared.bad.WordFault.TheVariants.{Bad}
+use Rattle.scp_script_text.specs.scp_device.specs.declared.bad.WordFault.TheVariants.{Bad}
 use Rattle.scp_script_text.specs.declared.script.Form.TheVariants.{Hex}
 use Rattle.scp_script_text.specs.Scripts.{IsLineOf, IsNoLineOf}
 use Rattle.scp_script_short.specs.declared.expanded.Expanded.{Expanded}
@@ -8,7 +8,7 @@ use Rattle.scp_script_short.specs.declared.expanded.TheConstants.{LINE_LIMIT}
 use Rattle.scp_script_short.specs.declared.hexing.HexError.{HexError}
 use Rattle.scp_script_short.specs.declared.hexing.HexError.TheVariants.{NoMemory, TooLong, Short, Text}
 use Rattle.scp_script_short.specs.declared.placed.PlacedLine.{PlacedLine}
-use Rattle.scp_text.specs.scp_device.specs.declared.bad.BadLine.{BadLine}
+use Rattle.scp_script_text.specs.scp_device.specs.declared.bad.BadLine.{BadLine}
 use Rattle.scp_script_short.specs.Scripts.{said_in, script_of, weight_in, IsExpanded}
 
 -- each of the lines in hex digits, with the same place

@@ -1,8 +1,8 @@
 -- The lines that a shorthand says (this project's profile).
 use Rattle.std.specs.Prelude.{ℕ, zero, suc, ◌%◌, not, ◌&&◌, List, [], ◌∷◌, ◌++◌, map, filter, flat_map, if◌then◌else◌, nat_eq, nat_lt, codes}
 use Rattle.std.specs.Fmt.{decimal}
-use Rattle.scp_types.specs.declared.limits.TheConstants.{WINDOW}
-use Rattle.scp_types.specs.declared.names.Slot.{Slot}
+use Rattle.scp_script_text.specs.scp_types.specs.declared.limits.TheConstants.{WINDOW}
+use Rattle.scp_script_text.specs.scp_types.specs.declared.names.Slot.{Slot}
 use Rattle.scp_script_short.specs.declared.shorthand.Shorthand.{Shorthand}
 use Rattle.scp_script_short.specs.declared.shorthand.Shorthand.TheVariants.{OpenAll, Rounds, CatchUp}
 

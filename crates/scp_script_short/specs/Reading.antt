@@ -1,12 +1,12 @@
 -- The words of a shorthand (this project's profile): `open all`, `rounds SLOT K`, `catchup I J N`.
 use Rattle.std.specs.Prelude.{ℕ, ◌+◌, Bool, true, false, ◌&&◌, List, [], ◌∷◌, Option, Some, None, Result, Ok, Err, if◌then◌else◌, codes, slice_get, option_map, nat_eq, nat_le}
-use Rattle.scp_types.specs.declared.names.Slot.{Slot}
-use Rattle.scp_text.specs.Pieces.{same, number_in}
-use Rattle.scp_text.specs.Sets.{counter_in}
+use Rattle.scp_script_text.specs.scp_types.specs.declared.names.Slot.{Slot}
+use Rattle.scp_script_text.specs.scp_text.specs.Pieces.{same, number_in}
+use Rattle.scp_script_text.specs.scp_text.specs.Sets.{counter_in}
 use Rattle.scp_script_short.specs.declared.reading.TheConstants.{COUNT_LIMIT}
-use Rattle.scp_text.specs.scp_device.specs.declared.bad.Expected.{Expected}
-use Rattle.scp_text.specs.scp_device.specs.declared.bad.Expected.TheVariants.{ASlot, HowMany, ANode, AnotherNode, NoMore}
-use Rattle.scp_text.specs.scp_device.specs.declared.bad.BadWord.{BadWord}
+use Rattle.scp_script_text.specs.scp_device.specs.declared.bad.Expected.{Expected}
+use Rattle.scp_script_text.specs.scp_device.specs.declared.bad.Expected.TheVariants.{ASlot, HowMany, ANode, AnotherNode, NoMore}
+use Rattle.scp_script_text.specs.scp_device.specs.declared.bad.BadWord.{BadWord}
 use Rattle.scp_script_short.specs.declared.shorthand.Shorthand.{Shorthand}
 use Rattle.scp_script_short.specs.declared.shorthand.Shorthand.TheVariants.{OpenAll, Rounds, CatchUp}
 

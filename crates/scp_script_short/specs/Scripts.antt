@@ -1,14 +1,14 @@
 -- Whole scripts with shorthand: what each line says, and the lines that it stands for (this project's profile).
 use Rattle.std.specs.Prelude.{◌≡◌, ℕ, zero, suc, ◌+◌, ◌*◌, List, [], ◌∷◌, ◌++◌, map, Option, Some, None, Result, Ok, Err, if◌then◌else◌, codes, slice_get, option_map}
 use Rattle.std.specs.List.{join_with_byte}
-use Rattle.scp_types.specs.declared.limits.TheConstants.{NODE_LIMIT}
-use Rattle.scp_text.specs.Pieces.{same}
-use Rattle.scp_text.specs.Messages.{words_of}
+use Rattle.scp_script_text.specs.scp_types.specs.declared.limits.TheConstants.{NODE_LIMIT}
+use Rattle.scp_script_text.specs.scp_text.specs.Pieces.{same}
+use Rattle.scp_script_text.specs.scp_text.specs.Messages.{words_of}
 use Rattle.scp_script_text.specs.Scripts.{lines_of}
 use Rattle.scp_script_short.specs.declared.expanded.Expanded.{Expanded}
 use Rattle.scp_script_short.specs.declared.placed.PlacedLine.{PlacedLine}
-use Rattle.scp_text.specs.scp_device.specs.declared.bad.BadLine.{BadLine}
-use Rattle.scp_text.specs.scp_device.specs.declared.bad.BadWord.{BadWord}
+use Rattle.scp_script_text.specs.scp_device.specs.declared.bad.BadLine.{BadLine}
+use Rattle.scp_script_text.specs.scp_device.specs.declared.bad.BadWord.{BadWord}
 use Rattle.scp_script_short.specs.declared.said.Said.{Said}
 use Rattle.scp_script_short.specs.declared.said.Said.TheVariants.{Line, Short, Bad}
 use Rattle.scp_script_short.specs.declared.shorthand.Shorthand.{Shorthand}

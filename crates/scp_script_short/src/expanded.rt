@@ -6,8 +6,8 @@ ghost use Rattle.scp_script_short.specs.Scripts.{said as says, nodes_of as nodes
 use crate::placed::{PlacedLines, placed_lines};
 use crate::said::{Said, nodes_of, said_line};
 use crate::shorthand::Shorthand;
-use scp_text::BadLine;
-use scp_types::{Fault, SCRIPT_LIMIT};
+use scp_script_text::below::text::BadLine;
+use scp_script_text::below::types::{Fault, SCRIPT_LIMIT};
 use std::alloc::{AllocError, Global};
 
 /// The most that the shorthands of a script may weigh together. A `rounds` weighs its rounds at all nodes together, a `catchup` its

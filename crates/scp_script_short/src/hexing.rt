@@ -6,8 +6,8 @@ ghost use Rattle.scp_script_short.specs.inside.Hexing.{IsPlaced, IsTold, IsRefus
 
 use crate::expanded::{Expanded, expand};
 use crate::placed::{PlacedLine, PlacedLines};
+use scp_script_text::below::types::Fault;
 use scp_script_text::{BadLine, Form, ReadFault, WordFault, line_in};
-use scp_types::Fault;
 use std::alloc::{AllocError, Global};
 
 /// Why a script isn't written in hex digits. Lines are those of the script that was given.

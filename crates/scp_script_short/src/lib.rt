@@ -8,6 +8,7 @@
 //!   given.
 #![tactic(auto)]
 
+pub mod below;
 mod expanded;
 mod hexing;
 mod laws;

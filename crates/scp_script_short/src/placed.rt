@@ -3,7 +3,7 @@ ghost use Rattle.std.specs.Prelude.{◌≡◌, ◌++◌, ◌∷◌, if◌then◌
 ghost use Rattle.scp_script_short.specs.Scripts.{placed_at, script_of, place_at, placed_from};
 
 use crate::said::{Said, expansion};
-use scp_wire::Bytes;
+use scp_script_text::below::wire::Bytes;
 use std::alloc::{AllocError, Global};
 use std::marker::Model;
 

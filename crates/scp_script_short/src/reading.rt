@@ -4,8 +4,8 @@ ghost use Rattle.scp_script_short.specs.inside.Reading.{Answers};
 ghost use Rattle.scp_script_short.specs.Reading.{at, ended, or_refused as refused_or, number_to as number_up_to, other_to, slot_in, is_all, open_all_in, rounds_in, catch_up_in, shorthand_by, shorthand_in};
 
 use crate::shorthand::Shorthand;
-use scp_text::{BadWord, Expected, Term, WordFault};
-use scp_types::{Fault, Slot};
+use scp_script_text::below::text::{BadWord, Expected, Term, WordFault};
+use scp_script_text::below::types::{Fault, Slot};
 use std::alloc::Global;
 
 /// The most rounds or slots that one line may say.

@@ -1,15 +1,15 @@
 //! What one line of a script says.
 ghost use Rattle.std.specs.Prelude.{◌≡◌, IfOk, IsOkUnless, map};
-ghost use Rattle.scp_text.specs.Messages.{words_of};
+ghost use Rattle.scp_script_text.specs.scp_text.specs.Messages.{words_of};
 ghost use Rattle.scp_script_short.specs.Reading.{shorthand_in};
 ghost use Rattle.scp_script_short.specs.Scripts.{said_by as says_by, said as says, nodes_said as nodes_of_words, nodes_of as nodes_of_lines, expansion as lines_said};
 
 use crate::reading::{number_to, shorthand_of};
 use crate::shorthand::Shorthand;
 use crate::writing::lines_of;
-use scp_text::{BadWord, WordFault, words};
-use scp_types::{Fault, NODE_LIMIT};
-use scp_wire::Bytes;
+use scp_script_text::below::text::{BadWord, WordFault, words};
+use scp_script_text::below::types::{Fault, NODE_LIMIT};
+use scp_script_text::below::wire::Bytes;
 use std::alloc::{AllocError, Global};
 
 /// What one line of a script says.

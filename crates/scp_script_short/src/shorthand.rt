@@ -1,5 +1,5 @@
 //! What a shorthand says.
-use scp_types::Slot;
+use scp_script_text::below::types::Slot;
 
 /// A line of text that says several lines of a script.
 #[derive(Clone, Copy, PartialEq, Eq)]

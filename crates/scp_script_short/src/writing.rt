@@ -3,8 +3,8 @@ ghost use Rattle.std.specs.Prelude.{◌≡◌, ◌++◌, ◌∷◌, [], IfOk, On
 ghost use Rattle.scp_script_short.specs.Lines.{open_line as open_of, round_line as round_of, ask_line as ask_of, opens_of as opens_of_node, opens as all_opens, round_of_each, rounds as all_rounds, ask_lines, asks as all_asks, lines_of as said_lines};
 
 use crate::shorthand::Shorthand;
-use scp_types::{Slot, WINDOW};
-use scp_wire::Bytes;
+use scp_script_text::below::types::{Slot, WINDOW};
+use scp_script_text::below::wire::Bytes;
 use std::alloc::{AllocError, Global};
 
 /// A line of this text.

@@ -2,8 +2,8 @@
 use Rattle.std.proofs.Common.{◌≡◌, ◌++◌, List, ℕ, [], ◌∷◌, refl, sym, ◌∙◌, ap, subst, codes, arith, length, map, map-id, flat_map}
 use Rattle.std.proofs.lemmas.List.{append_assoc, append-nil, flat_map_more}
 use Rattle.hex.specs.Hex.{encode_lower}
-use Rattle.scp_types.specs.declared.names.NodeId.{NodeId}
-use Rattle.scp_driver.specs.declared.driver.Level.{Level}
+use Rattle.scp_slot.specs.scp_types.specs.declared.names.NodeId.{NodeId}
+use Rattle.scp_slot.specs.scp_driver.specs.declared.driver.Level.{Level}
 use Rattle.scp_slot.specs.declared.output.SlotInput.{SlotInput}
 use Rattle.scp_slot.specs.declared.output.SlotOutput.{SlotOutput}
 use Rattle.scp_slot.specs.Slot.{SlotView, Begins}

@@ -1,8 +1,8 @@
 -- How a fault is reported.
 use Rattle.std.specs.Prelude.{ℕ, List, ◌==◌, ◌≤◌, length}
 use Rattle.std.specs.List.{slice_split}
-use Rattle.scp_types.specs.declared.fault.Fault.{Fault}
-use Rattle.scp_types.specs.declared.fault.Fault.TheVariants.{NoMemory, BadScript}
+use Rattle.scp_slot.specs.scp_types.specs.declared.fault.Fault.{Fault}
+use Rattle.scp_slot.specs.scp_types.specs.declared.fault.Fault.TheVariants.{NoMemory, BadScript}
 
 -- the lines of a text
 abbrev pub lines_of : List ℕ → List (List ℕ)

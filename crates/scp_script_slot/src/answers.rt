@@ -6,11 +6,11 @@ ghost use Rattle.scp_script_slot.specs.Answers.{verdict_word, hex_word, node_wor
 ghost use Rattle.scp_script_slot.specs.inside.Answers.{Appends};
 
 use crate::script::{Script, Setup};
-use scp_ballot::Certified;
-use scp_driver::{Driver, KvDriver};
-use scp_envelope::{Envelope, SharedEnvelope, encode};
+use scp_slot::below::ballot::Certified;
+use scp_slot::below::driver::{Driver, KvDriver};
+use scp_slot::below::envelope::{Envelope, SharedEnvelope, encode};
+use scp_slot::below::types::{Fault, NodeId, Slot};
 use scp_slot::{SlotInput, SlotMachine, SlotOutput, Verdict};
-use scp_types::{Fault, NodeId, Slot};
 use std::alloc::Global;
 use std::collections::BTreeSet;
 

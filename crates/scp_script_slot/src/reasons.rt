@@ -3,7 +3,7 @@ ghost use Rattle.std.specs.Prelude.{IsOkUnless};
 
 use crate::words::{ascii, envelope, is_skipped, lines, node, number, sane_set, value, words};
 use scp_device::{BadWord, Expected};
-use scp_types::{Fault, Slot};
+use scp_slot::below::types::{Fault, Slot};
 use std::alloc::Global;
 
 /// What single words must be.

@@ -3,10 +3,10 @@ ghost use Rattle.std.specs.Prelude.{IsOkUnless, IfErr};
 ghost use Rattle.scp_script_slot.specs.Serving.{IsScriptFault};
 
 use crate::words::{ascii, envelope, is_skipped, lines, node, number, sane_set, value, words};
-use scp_envelope::SharedEnvelope;
-use scp_quorum::SaneSet;
 use scp_slot::SlotInput;
-use scp_types::{Fault, NodeId, Slot};
+use scp_slot::below::envelope::SharedEnvelope;
+use scp_slot::below::quorum::SaneSet;
+use scp_slot::below::types::{Fault, NodeId, Slot};
 use std::alloc::Global;
 use std::sync::Arc;
 

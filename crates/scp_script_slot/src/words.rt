@@ -3,9 +3,9 @@ ghost use Rattle.std.specs.Prelude.{◌≡◌, IfOk, IsOkUnless, map};
 ghost use Rattle.scp_script_slot.specs.Serving.{lines_of};
 
 use hex::FromHexError;
-use scp_envelope::{Envelope, decode};
-use scp_quorum::{QuorumSet, SaneSet};
-use scp_types::{Fault, NodeId, VALUE_LIMIT, Value};
+use scp_slot::below::envelope::{Envelope, decode};
+use scp_slot::below::quorum::{QuorumSet, SaneSet};
+use scp_slot::below::types::{Fault, NodeId, VALUE_LIMIT, Value};
 use std::alloc::{AllocError, Global};
 use std::str;
 use std::sync::Arc;

@@ -1,8 +1,8 @@
 -- What is decoded is encoded as what it was.
 use Rattle.std.proofs.Common.{◌≡◌, ℕ, List, Some, Ok, Err, inl, inr, ◌≤◌, length, sym, ◌∙◌, ap, subst}
-use Rattle.scp_xdr.specs.Kind.{spelling}
-use Rattle.scp_wire.specs.declared.message.Message.{Message}
-use Rattle.scp_wire.specs.Message.{message_kind, message_value, SpellsMessage, FitsMessage}
+use Rattle.scp_text.specs.scp_xdr.specs.Kind.{spelling}
+use Rattle.scp_text.specs.scp_wire.specs.declared.message.Message.{Message}
+use Rattle.scp_text.specs.scp_wire.specs.Message.{message_kind, message_value, SpellsMessage, FitsMessage}
 use Rattle.scp_script_text.specs.Decoding.{spelled}
 use Rattle.scp_script_text.specs.Laws.{ComesBack, IsNeverRefused}
 

@@ -7,14 +7,14 @@ use Rattle.std.proofs.lemmas.Bool.Decides.{nat_tests}
 use Rattle.hex.specs.Hex.{IsBytes, decode_of}
 use Rattle.hex.specs.declared.error.FromHexError.{FromHexError}
 use Rattle.hex.proofs.HexLemmas.{decode_of-ok}
-use Rattle.scp_types.specs.declared.fault.Fault.{Fault}
-use Rattle.scp_types.specs.declared.fault.Fault.TheVariants.{TooLong}
-use Rattle.scp_xdr.specs.Kind.{Kind, Values, Fits, Spells, spelling}
-use Rattle.scp_xdr.specs.Reading.{reading_whole}
-use Rattle.scp_quorum.specs.QuorumTree.{QuorumTree}
-use Rattle.scp_quorum.specs.QuorumKind.{set_kind, set_value}
-use Rattle.scp_wire.specs.declared.message.Message.{Message as LinkMessage}
-use Rattle.scp_wire.specs.Message.{message_kind, message_value, message_reading, SpellsMessage, FitsMessage}
+use Rattle.scp_text.specs.scp_types.specs.declared.fault.Fault.{Fault}
+use Rattle.scp_text.specs.scp_types.specs.declared.fault.Fault.TheVariants.{TooLong}
+use Rattle.scp_text.specs.scp_xdr.specs.Kind.{Kind, Values, Fits, Spells, spelling}
+use Rattle.scp_text.specs.scp_xdr.specs.Reading.{reading_whole}
+use Rattle.scp_text.specs.scp_quorum.specs.QuorumTree.{QuorumTree}
+use Rattle.scp_text.specs.scp_quorum.specs.QuorumKind.{set_kind, set_value}
+use Rattle.scp_text.specs.scp_wire.specs.declared.message.Message.{Message as LinkMessage}
+use Rattle.scp_text.specs.scp_wire.specs.Message.{message_kind, message_value, message_reading, SpellsMessage, FitsMessage}
 use Rattle.scp_text.specs.Pieces.{same}
 use Rattle.scp_text.specs.Values.{value_text, value_in}
 use Rattle.scp_text.specs.Sets.{set_text, set_in}

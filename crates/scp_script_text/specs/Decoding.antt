@@ -4,10 +4,10 @@ use Rattle.std.specs.Result.{result_ok}
 use Rattle.base64.specs.Engines.{standard}
 use Rattle.base64.specs.GeneralPurpose.{encode_of, decode_of as base64_of}
 use Rattle.hex.specs.Hex.{encode_lower, decode_of}
-use Rattle.scp_types.specs.declared.fault.Fault.{Fault}
-use Rattle.scp_types.specs.declared.fault.Fault.TheVariants as faults
-use Rattle.scp_wire.specs.declared.message.Message.{Message}
-use Rattle.scp_wire.specs.Message.{message_value, message_reading, SpellsMessage}
+use Rattle.scp_text.specs.scp_types.specs.declared.fault.Fault.{Fault}
+use Rattle.scp_text.specs.scp_types.specs.declared.fault.Fault.TheVariants as faults
+use Rattle.scp_text.specs.scp_wire.specs.declared.message.Message.{Message}
+use Rattle.scp_text.specs.scp_wire.specs.Message.{message_value, message_reading, SpellsMessage}
 use Rattle.scp_text.specs.Messages.{message_in, message_text, words_of}
 use Rattle.scp_script_text.specs.declared.bytes.Spelling.{Spelling}
 use Rattle.scp_script_text.specs.declared.bytes.Spelling.TheVariants.{Hex, Base64}

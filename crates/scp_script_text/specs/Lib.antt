@@ -1,3 +1,9 @@
+pub use Rattle.scp_text.specs.scp_types
+pub use Rattle.scp_text.specs.scp_xdr
+pub use Rattle.scp_text.specs.scp_quorum
+pub use Rattle.scp_text.specs.scp_envelope
+pub use Rattle.scp_text.specs.scp_wire
+pub use Rattle.scp_text.specs.scp_device
 pub use Rattle.scp_text
 pub mod Lines
 pub mod SlotLines

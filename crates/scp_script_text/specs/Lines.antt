@@ -3,14 +3,14 @@ use Rattle.std.specs.Prelude.{◌≡◌, ◌⊎◌, ◌≤◌, ◌<◌, ℕ, ◌
 use Rattle.std.specs.Fmt.{decimal}
 use Rattle.std.specs.Result.{result_ok}
 use Rattle.hex.specs.Hex.{encode_lower, decode_of}
-use Rattle.scp_types.specs.declared.fault.Fault.{Fault}
-use Rattle.scp_types.specs.declared.fault.Fault.TheVariants.{Malformed, TooLong}
-use Rattle.scp_xdr.specs.Kind.{Spells}
-use Rattle.scp_xdr.specs.Reading.{reading_whole}
-use Rattle.scp_quorum.specs.QuorumTree.{QuorumTree}
-use Rattle.scp_quorum.specs.QuorumKind.{set_kind, set_value}
-use Rattle.scp_wire.specs.declared.message.Message.{Message as LinkMessage}
-use Rattle.scp_wire.specs.Message.{message_value, message_reading, SpellsMessage}
+use Rattle.scp_text.specs.scp_types.specs.declared.fault.Fault.{Fault}
+use Rattle.scp_text.specs.scp_types.specs.declared.fault.Fault.TheVariants.{Malformed, TooLong}
+use Rattle.scp_text.specs.scp_xdr.specs.Kind.{Spells}
+use Rattle.scp_text.specs.scp_xdr.specs.Reading.{reading_whole}
+use Rattle.scp_text.specs.scp_quorum.specs.QuorumTree.{QuorumTree}
+use Rattle.scp_text.specs.scp_quorum.specs.QuorumKind.{set_kind, set_value}
+use Rattle.scp_text.specs.scp_wire.specs.declared.message.Message.{Message as LinkMessage}
+use Rattle.scp_text.specs.scp_wire.specs.Message.{message_value, message_reading, SpellsMessage}
 use Rattle.scp_text.specs.Pieces.{same}
 use Rattle.scp_text.specs.Values.{value_text, value_in}
 use Rattle.scp_text.specs.Sets.{set_text, set_in}

@@ -1,12 +1,12 @@
 -- One line of a slot's script, with what it carries in hex digits (this project's profile).
 use Rattle.std.specs.Prelude.{◌≡◌, ◌⊎◌, ℕ, ◌+◌, Bool, true, false, ◌&&◌, List, [], ◌∷◌, length, drop, Option, Some, None, Ok, if◌then◌else◌, codes, nat_eq, nat_lt}
-use Rattle.scp_xdr.specs.Kind.{Spells}
-use Rattle.scp_quorum.specs.QuorumTree.{QuorumTree}
-use Rattle.scp_quorum.specs.QuorumKind.{set_kind, set_value}
-use Rattle.scp_envelope.specs.Kinds.{envelope_kind, envelope_value}
-use Rattle.scp_envelope.specs.declared.statement.Envelope.{Envelope as AnyEnvelope}
-use Rattle.scp_wire.specs.declared.message.Message.{Message}
-use Rattle.scp_wire.specs.declared.message.Message.TheVariants.{Envelope, GetSet, Set, NoSet, GetRecord, Record, Records}
+use Rattle.scp_text.specs.scp_xdr.specs.Kind.{Spells}
+use Rattle.scp_text.specs.scp_quorum.specs.QuorumTree.{QuorumTree}
+use Rattle.scp_text.specs.scp_quorum.specs.QuorumKind.{set_kind, set_value}
+use Rattle.scp_text.specs.scp_envelope.specs.Kinds.{envelope_kind, envelope_value}
+use Rattle.scp_text.specs.scp_envelope.specs.declared.statement.Envelope.{Envelope as AnyEnvelope}
+use Rattle.scp_text.specs.scp_wire.specs.declared.message.Message.{Message}
+use Rattle.scp_text.specs.scp_wire.specs.declared.message.Message.TheVariants.{Envelope, GetSet, Set, NoSet, GetRecord, Record, Records}
 use Rattle.scp_text.specs.Pieces.{same}
 use Rattle.scp_text.specs.Values.{value_in}
 use Rattle.scp_text.specs.Sets.{set_in}

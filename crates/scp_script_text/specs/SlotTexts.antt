@@ -1,14 +1,14 @@
 -- One line of a slot's script, with what it carries as text (this project's profile).
 use Rattle.std.specs.Prelude.{◌≡◌, ◌≢◌, ◌⊎◌, ◌==◌, ℕ, Bool, true, false, List, [], ◌∷◌, drop, Option, Some, None, Err, codes}
 use Rattle.std.specs.List.{list_any}
-use Rattle.scp_types.specs.declared.fault.Fault.{Fault}
-use Rattle.scp_xdr.specs.Kind.{Spells}
-use Rattle.scp_xdr.specs.Reading.{reading_whole}
-use Rattle.scp_envelope.specs.Kinds.{envelope_kind, envelope_value}
-use Rattle.scp_envelope.specs.declared.statement.Envelope.{Envelope as AnyEnvelope}
-use Rattle.scp_wire.specs.declared.message.Message.{Message}
-use Rattle.scp_wire.specs.declared.message.Message.TheVariants.{Envelope}
-use Rattle.scp_wire.specs.Message.{message_value, FitsMessage}
+use Rattle.scp_text.specs.scp_types.specs.declared.fault.Fault.{Fault}
+use Rattle.scp_text.specs.scp_xdr.specs.Kind.{Spells}
+use Rattle.scp_text.specs.scp_xdr.specs.Reading.{reading_whole}
+use Rattle.scp_text.specs.scp_envelope.specs.Kinds.{envelope_kind, envelope_value}
+use Rattle.scp_text.specs.scp_envelope.specs.declared.statement.Envelope.{Envelope as AnyEnvelope}
+use Rattle.scp_text.specs.scp_wire.specs.declared.message.Message.{Message}
+use Rattle.scp_text.specs.scp_wire.specs.declared.message.Message.TheVariants.{Envelope}
+use Rattle.scp_text.specs.scp_wire.specs.Message.{message_value, FitsMessage}
 use Rattle.scp_text.specs.Messages.{message_text, words_of}
 use Rattle.scp_script_text.specs.declared.nodes.Carried.{Carried}
 use Rattle.scp_script_text.specs.declared.nodes.Carried.TheVariants.{Value, Set}

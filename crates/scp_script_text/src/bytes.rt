@@ -5,7 +5,7 @@ ghost use Rattle.scp_script_text.specs.Decoding.{spelled as spelled_by, bytes_in
 use base64::DecodeAllocError;
 use base64::engine::general_purpose::STANDARD;
 use hex::FromHexError;
-use scp_types::Fault;
+use scp_text::below::types::Fault;
 use std::alloc::{AllocError, Global};
 
 /// How bytes are encoded in a word.

@@ -1,14 +1,14 @@
 //! The text of a message.
 ghost use Rattle.std.specs.Prelude.{◌≡◌, ◌≢◌, IfOk, IfErr, Ok, Err, string_bytes};
-ghost use Rattle.scp_wire.specs.Message.{message_reading};
+ghost use Rattle.scp_text.specs.scp_wire.specs.Message.{message_reading};
 ghost use Rattle.scp_script_text.specs.declared.decoding.DecodeError.TheVariants.{NoMemory};
 ghost use Rattle.scp_script_text.specs.Decoding.{IsTextOf, IsDecoded, IsUndecoded};
 ghost use Rattle.scp_script_text.specs.inside.Decoding.{IsUnread};
 
 use crate::bytes::{Spelling, bytes_in};
+use scp_text::below::types::Fault;
+use scp_text::below::wire::decode;
 use scp_text::text_of;
-use scp_types::Fault;
-use scp_wire::decode;
 use std::alloc::{AllocError, Global};
 use thiserror::Error;
 

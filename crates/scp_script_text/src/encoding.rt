@@ -4,8 +4,8 @@ ghost use Rattle.scp_text.specs.Messages.{words_of, IsRefusedMessage};
 ghost use Rattle.scp_script_text.specs.Decoding.{IsEncoded};
 
 use crate::bytes::{Spelling, spelled};
+use scp_text::below::wire::encode;
 use scp_text::{WordFault, message_of};
-use scp_wire::encode;
 use std::alloc::Global;
 
 /// The bytes, encoded in a word, of the message that a text says, such as `record 1 ops(put(a,1))`. It takes time in proportion to the

@@ -1,7 +1,7 @@
 //! What a line of a script of nodes carries as text, in hex digits.
 ghost use Rattle.std.specs.Prelude.{◌≡◌, ◌≢◌, ◌+◌, ◌≤◌, Ok, Err, IfOk, IfErr, map};
-ghost use Rattle.scp_xdr.specs.Kind.{Fits, Spells};
-ghost use Rattle.scp_quorum.specs.QuorumKind.{set_kind, set_value};
+ghost use Rattle.scp_text.specs.scp_xdr.specs.Kind.{Fits, Spells};
+ghost use Rattle.scp_text.specs.scp_quorum.specs.QuorumKind.{set_kind, set_value};
 ghost use Rattle.scp_text.specs.Values.{value_in};
 ghost use Rattle.scp_text.specs.Sets.{set_in};
 ghost use Rattle.scp_text.specs.Messages.{Answers, IsNear};
@@ -9,10 +9,10 @@ ghost use Rattle.scp_script_text.specs.Lines.{before, digits_of, only_word, Say,
 
 use crate::line::{copy_of, digits, digits_at, end, first_words, line_of, refused, words_behind};
 use crate::nodes::{Carried, words_before};
-use scp_quorum::QuorumSet;
+use scp_text::below::quorum::QuorumSet;
+use scp_text::below::types::Value;
+use scp_text::below::wire::{Bytes, encode};
 use scp_text::{BadWord, Expected, WordFault, message_of_words, set_of, value_of};
-use scp_types::Value;
-use scp_wire::{Bytes, encode};
 use std::alloc::{AllocError, Global};
 
 /// The bytes of the message that words say.

@@ -2,8 +2,8 @@
 ghost use Rattle.scp_script_text.specs.Scripts.{ScriptsComeBack, NoneIsRefused, SlotScriptsComeBack};
 ghost use Rattle.scp_script_text.specs.Laws.{ComesBack, IsNeverRefused};
 
+use scp_text::below::xdr::what_is_written_is_read_back;
 use scp_text::what_is_written_says_it;
-use scp_xdr::what_is_written_is_read_back;
 
 /// Take a script of nodes whose hex digits are lower-case and encode something. Made text, and then hex digits again, it is the same
 /// script.

@@ -14,6 +14,7 @@
 //!   as the same bytes.
 #![tactic(auto)]
 
+pub mod below;
 mod bytes;
 mod decoding;
 mod encoding;

@@ -5,9 +5,9 @@ ghost use Rattle.scp_script_text.specs.Lines.{before, ends, digits_of, bytes_in,
 ghost use Rattle.scp_script_text.specs.SlotLines.{but_last as all_but_last, last_of as last_word};
 
 use hex::FromHexError;
+use scp_text::below::types::Fault;
+use scp_text::below::wire::Bytes;
 use scp_text::{BadWord, Expected, WordFault};
-use scp_types::Fault;
-use scp_wire::Bytes;
 use std::alloc::{AllocError, Global};
 
 /// The first `count` words of a line, or all if there are fewer.

@@ -9,8 +9,8 @@ use crate::nodes::carried_in;
 use crate::slot_hexing::hex_line as slot_hex_line;
 use crate::slot_texting::text_line as slot_text_line;
 use crate::texting::text_line;
+use scp_text::below::wire::Bytes;
 use scp_text::{BadLine, ReadFault, WordFault, words};
-use scp_wire::Bytes;
 use std::alloc::{AllocError, Global};
 
 /// What a script is about, which decides what its lines carry.

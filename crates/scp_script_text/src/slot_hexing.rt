@@ -6,10 +6,10 @@ use crate::line::{
     behind_first, but_last, bytes_of, copy_of, digits_word, last_of, line_of, refused,
 };
 use crate::slot::{SlotLine, kind_of};
-use scp_envelope::{Envelope, encode};
+use scp_text::below::envelope::{Envelope, encode};
+use scp_text::below::types::Fault;
+use scp_text::below::wire::{Bytes, Message};
 use scp_text::{Expected, WordFault, message_of_words, set_of, value_of, words};
-use scp_types::Fault;
-use scp_wire::{Bytes, Message};
 use std::alloc::Global;
 
 /// What was expected where the message must be an envelope: an envelope in place of a message.

@@ -10,10 +10,10 @@ use crate::nodes::Carried;
 use crate::slot::{SlotLine, kind_of};
 use crate::slot_hexing::hex_line;
 use crate::texting::shown;
-use scp_envelope::decode;
+use scp_text::below::envelope::decode;
+use scp_text::below::types::Fault;
+use scp_text::below::wire::{BoxedEnvelope, Bytes, Message};
 use scp_text::{WordFault, text_of, words};
-use scp_types::Fault;
-use scp_wire::{BoxedEnvelope, Bytes, Message};
 use std::alloc::Global;
 
 /// The text of the envelope that bytes encode.

@@ -4,10 +4,10 @@ ghost use Rattle.scp_script_text.specs.Lines.{before, name_of as named, fault_te
 
 use crate::line::{digits_at, first_words, line_of, words_behind};
 use crate::nodes::{Carried, words_before};
-use scp_quorum::QuorumSet;
+use scp_text::below::quorum::QuorumSet;
+use scp_text::below::types::{Fault, Value};
+use scp_text::below::wire::{Bytes, decode};
 use scp_text::{BadWord, WordFault, text_of, text_of_set, text_of_value};
-use scp_types::{Fault, Value};
-use scp_wire::{Bytes, decode};
 use std::alloc::{AllocError, Global};
 
 /// The text of the message that the bytes encode.

@@ -18,11 +18,11 @@ use Rattle.crossbeam_queue.specs.contracts.array_queue.Slotted as slotted
 use Rattle.crossbeam_queue.specs.contracts.array_queue.Doing as doing
 use Rattle.crossbeam_queue.specs.contracts.array_queue.Turns as turns
 use Rattle.crossbeam_queue.specs.contracts.array_queue.TurnsTableRuleOptionDoingUnit.TheImpl as turns_rule
-use Rattle.scp_quorum.specs.contracts.quorum_set.QuorumSet as set
-use Rattle.scp_quorum.proofs.quorum_set.QuorumSet.TheLaws.TheKnot.{send-QuorumSet}
-use Rattle.scp_wire.specs.contracts.boxed.BoxedEnvelope as boxed
-use Rattle.scp_wire.proofs.boxed.BoxedEnvelope.TheSendSync.{the_send}
-use Rattle.scp_wire.specs.contracts.message.Message as message
+use Rattle.scp_outbox.specs.scp_quorum.specs.contracts.quorum_set.QuorumSet as set
+use Rattle.scp_outbox.specs.scp_quorum.proofs.quorum_set.QuorumSet.TheLaws.TheKnot.{send-QuorumSet}
+use Rattle.scp_outbox.specs.scp_wire.specs.contracts.boxed.BoxedEnvelope as boxed
+use Rattle.scp_outbox.specs.scp_wire.proofs.boxed.BoxedEnvelope.TheSendSync.{the_send}
+use Rattle.scp_outbox.specs.scp_wire.specs.contracts.message.Message as message
 use Rattle.scp_outbox.specs.contracts.mark.Mark as mark
 use Rattle.scp_outbox.specs.contracts.outbox.Outbox as outbox
 use Rattle.scp_shared_outbox.specs.contracts.turn.Part as part

@@ -4,7 +4,7 @@ use Rattle.std.specs.Prelude.{slice_get, option_map}
 use Rattle.std.specs.Global.{Vec}
 use Rattle.std.proofs.lemmas.Bool.{cases_eq}
 use Rattle.std.proofs.lemmas.Option.{slice_get_within}
-use Rattle.scp_wire.specs.declared.message.Message.{Message}
+use Rattle.scp_outbox.specs.scp_wire.specs.declared.message.Message.{Message}
 use Rattle.scp_shared_outbox.specs.Ends.{PutterView, MarkerView, TakerView}
 use Rattle.scp_shared_outbox.specs.declared.outlets.Outlets.{Outlets}
 use Rattle.scp_shared_outbox.specs.Places.{Each, link_of, peer_at, AreTwoOf}

@@ -1,6 +1,6 @@
 -- The place of a node among the peers of another. Each of a few nodes, numbered from 1 on, is a peer of all others.
 use Rattle.std.specs.Prelude.{◌≡◌, ◌≢◌, ℕ, ◌≤◌, List, Some, slice_get}
-pub use Rattle.scp_wire.specs.Places.{link_of, peer_at}
+pub use Rattle.scp_outbox.specs.scp_wire.specs.Places.{link_of, peer_at}
 
 -- P relates each element to its place
 abbrev pub Each : {T : Type 0} → (ℕ → T → Type 0) → List T → Type 0

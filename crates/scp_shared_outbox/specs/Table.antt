@@ -2,7 +2,7 @@
 use Rattle.std.specs.Prelude.{◌≡◌, ℕ, ◌+◌, ◌-◌, List, [], ◌∷◌, length, Option, Some, None, option_map, slice_get}
 use Rattle.std.specs.Global.{Vec}
 use Rattle.atomic_table.specs.Seated.{TableId}
-use Rattle.scp_wire.specs.declared.message.Message.{Message}
+use Rattle.scp_outbox.specs.scp_wire.specs.declared.message.Message.{Message}
 use Rattle.scp_outbox.specs.declared.mark.Mark.{Mark}
 use Rattle.scp_outbox.specs.declared.mark.Out.{Out}
 use Rattle.scp_outbox.specs.Outbox.{OutboxView}

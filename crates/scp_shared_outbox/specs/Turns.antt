@@ -1,6 +1,6 @@
 -- What an outbox gives, from what its producers put and what is marked.
 use Rattle.std.specs.Prelude.{◌≡◌, ℕ, ◌==◌, if◌then◌else◌, false, List, [], ◌∷◌, ◌++◌}
-use Rattle.scp_wire.specs.declared.message.Message.{Message}
+use Rattle.scp_outbox.specs.scp_wire.specs.declared.message.Message.{Message}
 use Rattle.scp_outbox.specs.declared.mark.Mark.{Mark}
 use Rattle.scp_outbox.specs.declared.mark.Out.{Out}
 use Rattle.scp_outbox.specs.Outbox.{OutboxView}

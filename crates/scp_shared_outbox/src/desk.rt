@@ -2,7 +2,7 @@
 ghost use Rattle.std.specs.Prelude.{◌≡◌, ◌≢◌, ◌∷◌, true, ◌≤◌, length, IsOkUnless, MatchResult};
 ghost use Rattle.crossbeam_queue.specs.Fifo.{Pushes};
 ghost use Rattle.crossbeam_queue.specs.Passes.{view, IsPassOf, ruled_capacity};
-ghost use Rattle.scp_wire.specs.Fitting.{IsFitting};
+ghost use Rattle.scp_outbox.specs.scp_wire.specs.Fitting.{IsFitting};
 ghost use Rattle.scp_outbox.specs.Outbox.{IfMessage};
 ghost use Rattle.scp_shared_outbox.specs.declared.turn.Turn.TheVariants as turn;
 ghost use Rattle.scp_shared_outbox.specs.Turns.{Stands};
@@ -11,9 +11,9 @@ ghost use Rattle.scp_shared_outbox.specs.inside.Rule.{Kept, IsInHand, IsMine, Is
 use crate::rule::{Leaves, Pass, Place, Said, TakesOut, Tells};
 use crate::turn::Part;
 use crossbeam_queue::protocol::Outcome;
+use scp_outbox::below::types::Fault;
+use scp_outbox::below::wire::FittingMessage;
 use scp_outbox::{MARK_LIMIT, Mark, Out, Outbox};
-use scp_types::Fault;
-use scp_wire::FittingMessage;
 use std::marker::Brand;
 use std::sync::{Condvar, Mutex, Wait};
 

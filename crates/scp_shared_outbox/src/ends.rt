@@ -3,7 +3,7 @@ ghost use Rattle.std.specs.Prelude.{◌≡◌, ◌≢◌, ℕ, [], ◌∷◌, �
 ghost use Rattle.std.specs.Arc.{arc_value};
 ghost use Rattle.crossbeam_queue.specs.Passes.{IsPassOf};
 ghost use Rattle.crossbeam_queue.specs.Passes as claims;
-ghost use Rattle.scp_wire.specs.Fitting.{IsFitting};
+ghost use Rattle.scp_outbox.specs.scp_wire.specs.Fitting.{IsFitting};
 ghost use Rattle.scp_outbox.specs.Outbox.{IfMessage};
 ghost use Rattle.scp_shared_outbox.specs.Ends as ends;
 ghost use Rattle.scp_shared_outbox.specs.inside.Passes as passes;
@@ -12,9 +12,9 @@ ghost use Rattle.scp_shared_outbox.specs.inside.Rule as rule;
 use crate::desk;
 use crate::desk::Desk;
 use crate::rule::Pass;
+use scp_outbox::below::types::Fault;
+use scp_outbox::below::wire::FittingMessage;
 use scp_outbox::{MARK_LIMIT, Mark, Out};
-use scp_types::Fault;
-use scp_wire::FittingMessage;
 use std::marker::{Brand, Model};
 use std::sync::{Arc, Wait};
 
@@ -30,8 +30,8 @@ impl Model for Putter {
     ghost use Rattle.std.specs.Arc.{arc_value};
     ghost use Rattle.std.specs.Coded.{codes};
     ghost use Rattle.crossbeam_queue.specs.Passes.{IsPassOf};
-    ghost use Rattle.scp_xdr.specs.inside.TreeModel.{coded_row};
-    ghost use Rattle.scp_quorum.specs.inside.QuorumTree.{coded_level};
+    ghost use Rattle.scp_outbox.specs.scp_xdr.specs.inside.TreeModel.{coded_row};
+    ghost use Rattle.scp_outbox.specs.scp_quorum.specs.inside.QuorumTree.{coded_level};
     ghost use Rattle.scp_shared_outbox.specs.Ends as ends;
     ghost use Rattle.scp_shared_outbox.specs.inside.Passes as passes;
 
@@ -55,8 +55,8 @@ impl Model for Marker {
     ghost use Rattle.std.specs.Arc.{arc_value};
     ghost use Rattle.std.specs.Coded.{codes};
     ghost use Rattle.crossbeam_queue.specs.Passes.{IsPassOf};
-    ghost use Rattle.scp_xdr.specs.inside.TreeModel.{coded_row};
-    ghost use Rattle.scp_quorum.specs.inside.QuorumTree.{coded_level};
+    ghost use Rattle.scp_outbox.specs.scp_xdr.specs.inside.TreeModel.{coded_row};
+    ghost use Rattle.scp_outbox.specs.scp_quorum.specs.inside.QuorumTree.{coded_level};
     ghost use Rattle.scp_shared_outbox.specs.Ends as ends;
     ghost use Rattle.scp_shared_outbox.specs.inside.Passes as passes;
 
@@ -80,8 +80,8 @@ impl Model for Taker {
     ghost use Rattle.std.specs.Arc.{arc_value};
     ghost use Rattle.std.specs.Coded.{codes};
     ghost use Rattle.crossbeam_queue.specs.Passes.{IsPassOf};
-    ghost use Rattle.scp_xdr.specs.inside.TreeModel.{coded_row};
-    ghost use Rattle.scp_quorum.specs.inside.QuorumTree.{coded_level};
+    ghost use Rattle.scp_outbox.specs.scp_xdr.specs.inside.TreeModel.{coded_row};
+    ghost use Rattle.scp_outbox.specs.scp_quorum.specs.inside.QuorumTree.{coded_level};
     ghost use Rattle.scp_shared_outbox.specs.Ends as ends;
     ghost use Rattle.scp_shared_outbox.specs.inside.Passes as passes;
 

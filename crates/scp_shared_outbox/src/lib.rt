@@ -39,7 +39,7 @@ pub use laws::{
 pub use making::make;
 pub use making_all::{Made, make_all};
 pub use outlets::Outlets;
-pub use scp_wire::{link_of, peer_at};
+pub use scp_outbox::below::wire::{link_of, peer_at};
 pub use taking::take_back;
 pub use taking_all::take_all_back;
 pub use turn::Turn;

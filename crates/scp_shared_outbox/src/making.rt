@@ -10,7 +10,7 @@ use crate::desk::Desk;
 use crate::ends::{Marker, Putter, Taker};
 use crate::rule::{Leaves, Makes, MakesMarker, Pass, Place};
 use scp_outbox::Outbox;
-use scp_types::Fault;
+use scp_outbox::below::types::Fault;
 use std::alloc::{AllocError, Global};
 use std::sync::{Arc, Condvar, Mutex};
 

@@ -1,6 +1,6 @@
 //! Making the outboxes of all links.
 ghost use Rattle.std.specs.Prelude.{◌≡◌, ◌≤◌, ◌+◌, ◌∷◌, [], length, IfOk, OnOk, IsOkUnless};
-ghost use Rattle.scp_types.specs.declared.limits.TheConstants.{NODE_LIMIT};
+ghost use Rattle.scp_outbox.specs.scp_types.specs.declared.limits.TheConstants.{NODE_LIMIT};
 ghost use Rattle.scp_shared_outbox.specs.Ends.{PutterView};
 ghost use Rattle.scp_shared_outbox.specs.Places.{Each};
 ghost use Rattle.scp_shared_outbox.specs.Table.{AreMade};
@@ -8,7 +8,7 @@ ghost use Rattle.scp_shared_outbox.specs.inside.Links.{ArePairs, HandedOut, HasN
 
 use crate::outlets::Outlets;
 use crate::{Marker, Putter, Taker, make};
-use scp_types::Fault;
+use scp_outbox::below::types::Fault;
 use std::alloc::{AllocError, Global};
 
 /// The ends of all outboxes: for each node n, at place n - 1, those of its own stages; and a row of those that belong to the links to it.

@@ -1,13 +1,13 @@
 //! Taking the ends of the outboxes of all links back.
 ghost use Rattle.std.specs.Prelude.{◌≡◌, ◌≤◌, ◌<◌, ◌∷◌, [], length, IfOk, OnOk, IsOkUnless};
-ghost use Rattle.scp_types.specs.declared.limits.TheConstants.{NODE_LIMIT};
+ghost use Rattle.scp_outbox.specs.scp_types.specs.declared.limits.TheConstants.{NODE_LIMIT};
 ghost use Rattle.scp_shared_outbox.specs.Table.{AreAllBack, AllCameOut};
 ghost use Rattle.scp_shared_outbox.specs.inside.Links.{AllEndIn, ArePairs, IsAnyOf, StandLast, TookFrom, TookIn};
 
 use crate::outlets::Outlets;
 use crate::{Marker, Putter, Taker, take_back};
-use scp_types::Fault;
-use scp_wire::peer_at;
+use scp_outbox::below::types::Fault;
+use scp_outbox::below::wire::peer_at;
 use std::alloc::{AllocError, Global};
 use std::sync::Wait;
 

@@ -1,6 +1,6 @@
 //! The turns at an outbox, and what a pass knows about them.
+use scp_outbox::below::wire::Message;
 use scp_outbox::{Mark, Out};
-use scp_wire::Message;
 use std::collections::LinkedList;
 
 /// One turn at an outbox. No value of it is ever made.

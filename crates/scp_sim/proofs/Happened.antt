@@ -4,13 +4,13 @@ use Rattle.std.specs.Prelude.{◌&&◌, All, Option, option_to_list, if◌then�
 use Rattle.std.specs.List.{list_all}
 use Rattle.std.proofs.lemmas.Grind.{flat_map-append}
 use Rattle.std.proofs.lemmas.List.Elements.{All-nil, All-cons, All-append}
-use Rattle.scp_script.specs.declared.command.Command.{Command}
-use Rattle.scp_script.specs.Script.{begins, command_in, commands_of, is_line}
-use Rattle.scp_script.specs.Nodes.{NamesNodes}
-use Rattle.scp_script.specs.Words.{words_of}
+use Rattle.scp_line.specs.scp_script.specs.declared.command.Command.{Command}
+use Rattle.scp_line.specs.scp_script.specs.Script.{begins, command_in, commands_of, is_line}
+use Rattle.scp_line.specs.scp_script.specs.Nodes.{NamesNodes}
+use Rattle.scp_line.specs.scp_script.specs.Words.{words_of}
 use Rattle.scp_sim.specs.Lines.{IsDone, text_of}
 use Rattle.scp_sim.specs.inside.Lines.{line_of, IsInRange, IsDoneText}
-use Rattle.scp_text.proofs.Items.{and_both}
+use Rattle.scp_line.specs.scp_text.proofs.Items.{and_both}
 use Rattle.scp_sim.specs.inside.Follows.{Follows}
 use Rattle.scp_sim.proofs.Saying.{line_says}
 

@@ -10,16 +10,16 @@ use Rattle.std.proofs.lemmas.List.Elements.{All-nil, All-cons}
 use Rattle.std.proofs.lemmas.List.Splits.{slice_split_at, slice_split_none}
 use Rattle.hex.specs.Hex.{IsBytes, lower_digits, encode_lower, encode_with, decode_of}
 use Rattle.hex.proofs.HexLemmas.{decode_of-encode_lower}
-use Rattle.scp_script_text.specs.Lines.{digits_of}
-use Rattle.scp_script.specs.declared.command.Command.{Command}
-use Rattle.scp_script.specs.declared.command.Command.TheVariants.{Caps, Nodes, Set, Open, Close, Send, Propose, Round, Timer, Tick, Ask, Settle, Wait, Report}
-use Rattle.scp_script.specs.Nodes.{IsSmall, NamesNodes}
-use Rattle.scp_script.specs.Script.{command_in, open_by, close_by, send_by, propose_by, round_by, timer_by, wait_by, ask_by}
-use Rattle.scp_script.specs.Words.{is_ascii, is_skipped, words_of, same, node_in, link_by, link_in, number_in, hex_bytes, digits_bytes}
-use Rattle.scp_script.proofs.Lines.{is_number}
-use Rattle.scp_text.specs.Pieces.{is_plain}
-use Rattle.scp_text.proofs.Items.{and_both}
-use Rattle.scp_text.proofs.Numbers.{decimal_plain}
+use Rattle.scp_script_check.specs.scp_script_text.specs.Lines.{digits_of}
+use Rattle.scp_line.specs.scp_script.specs.declared.command.Command.{Command}
+use Rattle.scp_line.specs.scp_script.specs.declared.command.Command.TheVariants.{Caps, Nodes, Set, Open, Close, Send, Propose, Round, Timer, Tick, Ask, Settle, Wait, Report}
+use Rattle.scp_line.specs.scp_script.specs.Nodes.{IsSmall, NamesNodes}
+use Rattle.scp_line.specs.scp_script.specs.Script.{command_in, open_by, close_by, send_by, propose_by, round_by, timer_by, wait_by, ask_by}
+use Rattle.scp_line.specs.scp_script.specs.Words.{is_ascii, is_skipped, words_of, same, node_in, link_by, link_in, number_in, hex_bytes, digits_bytes}
+use Rattle.scp_line.specs.scp_script.proofs.Lines.{is_number}
+use Rattle.scp_line.specs.scp_text.specs.Pieces.{is_plain}
+use Rattle.scp_line.specs.scp_text.proofs.Items.{and_both}
+use Rattle.scp_line.specs.scp_text.proofs.Numbers.{decimal_plain}
 use Rattle.scp_sim.specs.Lines.{IsDone}
 use Rattle.scp_sim.specs.inside.Lines.{line_of, IsInRange, Says}
 

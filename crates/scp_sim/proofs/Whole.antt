@@ -12,17 +12,17 @@ use Rattle.std.proofs.lemmas.List.Elements.{All-nil, All-cons, All-append, All-h
 use Rattle.std.proofs.lemmas.List.Splits.{slice_split_at, slice_split_none}
 use Rattle.std.proofs.lemmas.List.Sums.{fold-append}
 use Rattle.scp_sim_options.specs.declared.plan.Plan.{Plan}
-use Rattle.scp_quorum.specs.QuorumTree.{QuorumTree}
-use Rattle.scp_script_text.specs.declared.script.Form.TheVariants.{Hex}
-use Rattle.scp_script_text.specs.Lines.{carried_in}
-use Rattle.scp_script_text.specs.Scripts.{lines_of, IsLineBy, IsLineOf, AreLinesOf}
-use Rattle.scp_script.specs.declared.command.Command.{Command}
-use Rattle.scp_script.specs.declared.command.Command.TheVariants.{Caps, Nodes, Set, Open, Close, Send, Propose, Round, Timer, Tick, Ask, Settle, Wait, Report}
-use Rattle.scp_script.specs.Nodes.{set_given, set_at, of_all}
-use Rattle.scp_script.specs.Script.{begins, counted, node_count, command_in, commands_of, nodes_by, is_line, AreAdmitted, AreLines}
-use Rattle.scp_script.specs.Words.{is_ascii, is_skipped, words_of, node_in}
-use Rattle.scp_script.proofs.Admitted.{count_stays}
-use Rattle.scp_text.proofs.Items.{and_both}
+use Rattle.scp_again.specs.scp_quorum.specs.QuorumTree.{QuorumTree}
+use Rattle.scp_script_check.specs.scp_script_text.specs.declared.script.Form.TheVariants.{Hex}
+use Rattle.scp_script_check.specs.scp_script_text.specs.Lines.{carried_in}
+use Rattle.scp_script_check.specs.scp_script_text.specs.Scripts.{lines_of, IsLineBy, IsLineOf, AreLinesOf}
+use Rattle.scp_line.specs.scp_script.specs.declared.command.Command.{Command}
+use Rattle.scp_line.specs.scp_script.specs.declared.command.Command.TheVariants.{Caps, Nodes, Set, Open, Close, Send, Propose, Round, Timer, Tick, Ask, Settle, Wait, Report}
+use Rattle.scp_line.specs.scp_script.specs.Nodes.{set_given, set_at, of_all}
+use Rattle.scp_line.specs.scp_script.specs.Script.{begins, counted, node_count, command_in, commands_of, nodes_by, is_line, AreAdmitted, AreLines}
+use Rattle.scp_line.specs.scp_script.specs.Words.{is_ascii, is_skipped, words_of, node_in}
+use Rattle.scp_line.specs.scp_script.proofs.Admitted.{count_stays}
+use Rattle.scp_line.specs.scp_text.proofs.Items.{and_both}
 use Rattle.scp_script_check.specs.Lines.{IsSaid}
 use Rattle.scp_sim.specs.Lines.{IsDone}
 use Rattle.scp_sim.specs.Simulated.{with_end, first_lines, IsSimulated}

@@ -1,9 +1,9 @@
 -- The lines of a script that say what happened (this project's profile).
 use Rattle.std.specs.Prelude.{ℕ, ◌≡◌, true, All, List, ◌++◌, codes, flat_map}
 use Rattle.std.specs.List.{list_all}
-use Rattle.scp_script.specs.declared.command.Command.{Command}
-use Rattle.scp_script.specs.Nodes.{NamesNodes}
-use Rattle.scp_script.specs.Script.{begins, commands_of, is_line}
+use Rattle.scp_line.specs.scp_script.specs.declared.command.Command.{Command}
+use Rattle.scp_line.specs.scp_script.specs.Nodes.{NamesNodes}
+use Rattle.scp_line.specs.scp_script.specs.Script.{begins, commands_of, is_line}
 
 -- A command by which something happens. It names only nodes from 1 to 8, and it is none of `caps`, `nodes` and `set`.
 pub record IsDone (command : Command) : Type 0 where

@@ -3,9 +3,9 @@ use Rattle.std.specs.Prelude.{ℕ, ◌≡◌, List, ◌++◌, codes, nat_eq, str
 use Rattle.std.specs.List.{ends_with}
 use Rattle.std.specs.Fmt.{decimal}
 use Rattle.scp_sim_options.specs.declared.plan.Plan.{Plan}
-use Rattle.scp_script.specs.declared.command.Command.{Command}
-use Rattle.scp_script.specs.Nodes.{set_at}
-use Rattle.scp_script.specs.Script.{commands_of, node_count}
+use Rattle.scp_line.specs.scp_script.specs.declared.command.Command.{Command}
+use Rattle.scp_line.specs.scp_script.specs.Nodes.{set_at}
+use Rattle.scp_line.specs.scp_script.specs.Script.{commands_of, node_count}
 use Rattle.scp_script_check.specs.Lines.{IsSaid}
 use Rattle.scp_sim.specs.Lines.{AreDone, text_of}
 

@@ -3,9 +3,9 @@
 use crate::actor::tell;
 use crate::named::is_named;
 use crate::world::{SimFault, World};
-use scp_core::{Command as LocalCommand, Event};
+use scp_again::below::node::{Command as LocalCommand, Event};
 use scp_line::act;
-use scp_script::Command;
+use scp_line::below::script::Command;
 
 impl<'a> World<'a> {
     /// Plays a command and records its line, if it names only nodes that a script can have.

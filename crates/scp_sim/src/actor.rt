@@ -1,6 +1,6 @@
 //! An actor is a node of the script, or the twin of a node that equivocates.
 
-use scp_core::{Event, Node, Reply, Timer};
+use scp_again::below::node::{Event, Node, Reply, Timer};
 
 /// A timer that runs, and the time at which it fires.
 #[derive(Clone, Copy, PartialEq, Eq)]
@@ -28,7 +28,7 @@ pub struct Actor {
 pub fn tell(node: &mut Node, event: Event) {
     let again = event.copy();
     if let Reply::Full = node.step(event) {
-        scp_turn::settle(node);
+        scp_line::below::turn::settle(node);
         if let Ok(again) = again {
             node.step(again);
         }

@@ -13,7 +13,14 @@ pub fn within(rng: &mut ChaCha12Rng, span: Span) -> u64 {
     }
 }
 
-/// Whether something happens that happens this many times in a hundred.
-pub fn happens(rng: &mut ChaCha12Rng, percent: u8) -> bool {
-    percent > 0 && rng.random_range(0..100u8) < percent
+/// Whether something happens that happens this many times in a thousand. Whole percentages are drawn of a hundred.
+pub fn happens(rng: &mut ChaCha12Rng, thousandths: u16) -> bool {
+    if thousandths == 0 {
+        return false;
+    }
+    let all = u64::from(thousandths);
+    if all % 10 == 0 {
+        return u64::from(rng.random_range(0..100u8)) < all / 10;
+    }
+    rng.random_range(0..1_000u64) < all
 }

@@ -3,7 +3,7 @@
 use crate::actor::Armed;
 use crate::due::Due;
 use crate::world::{SECOND, SimFault, World};
-use scp_core::{Command as LocalCommand, Node, Timer, timers};
+use scp_again::below::node::{Command as LocalCommand, Node, Timer, timers};
 
 impl<'a> World<'a> {
     /// Stops the timers of a node.

@@ -1,8 +1,8 @@
 //! What is due to happen, and when.
 
-use scp_core::Timer;
-use scp_types::{Fault, Slot};
-use scp_wire::Bytes;
+use scp_again::below::node::Timer;
+use scp_again::below::types::{Fault, Slot};
+use scp_again::below::wire::Bytes;
 use std::alloc::Global;
 use std::collections::BTreeMap;
 

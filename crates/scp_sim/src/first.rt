@@ -1,7 +1,7 @@
 //! The first lines of a plan's script.
 ghost use Rattle.std.specs.Prelude.{◌≡◌, ◌<◌, [], All, IfOk, string_bytes};
-ghost use Rattle.scp_script.specs.Nodes.{NamesNodes};
-ghost use Rattle.scp_script.specs.Script.{AreAdmitted};
+ghost use Rattle.scp_line.specs.scp_script.specs.Nodes.{NamesNodes};
+ghost use Rattle.scp_line.specs.scp_script.specs.Script.{AreAdmitted};
 ghost use Rattle.scp_script_check.specs.Lines.{IsSaid};
 ghost use Rattle.scp_sim.specs.Simulated.{first_lines};
 
@@ -44,4 +44,14 @@ pub fn read_first(alloc: Global, text: &str) -> Result<Script, SimFault>
         Err(ReadFault::NoMemory) => Err(SimFault::NoMemory),
         Err(fault) => Err(SimFault::Sets(fault)),
     }
+}
+
+/// The first lines of the script of a plan, read. Refused by `Sets` if the plan's lines that give quorum sets are bad.
+pub fn first_script(alloc: Global, plan: &Plan) -> Result<Script, SimFault>
+    ensures said { IfOk result (λ script. IsSaid (first_lines plan.now) script.commands.items script.lines.items) }
+    ensures names { IfOk result (λ script. All NamesNodes script.commands.items) }
+    ensures admitted { IfOk result (λ script. AreAdmitted [] script.commands.items) }
+{
+    let text = beginning(alloc, plan)?;
+    read_first(alloc, text.as_str())
 }

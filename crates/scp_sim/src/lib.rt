@@ -11,15 +11,18 @@
 
 mod acting;
 mod actor;
+pub mod below;
 mod chance;
 mod clocks;
 mod due;
+mod far;
 mod first;
 mod lines;
 mod links;
 mod links_now;
 mod looking;
 mod named;
+mod pace;
 mod run;
 mod slots;
 mod times;
@@ -27,5 +30,7 @@ mod travel;
 mod voices;
 mod world;
 
+pub use first::first_script;
+pub use pace::{Far, Pace};
 pub use run::simulate;
 pub use world::{Counts, SimFault, Simulated};

@@ -1,12 +1,12 @@
 //! The lines of a script that say what happens.
 ghost use Rattle.std.specs.Prelude.{◌≡◌, ◌++◌, [], true, IfOk, OnOk, codes, string_bytes};
 ghost use Rattle.hex.specs.Hex.{IsBytes};
-ghost use Rattle.scp_script_text.specs.Lines.{digits_of};
-ghost use Rattle.scp_script.specs.Nodes.{NamesNodes};
-ghost use Rattle.scp_script.specs.Script.{begins};
+ghost use Rattle.scp_script_check.specs.scp_script_text.specs.Lines.{digits_of};
+ghost use Rattle.scp_line.specs.scp_script.specs.Nodes.{NamesNodes};
+ghost use Rattle.scp_line.specs.scp_script.specs.Script.{begins};
 ghost use Rattle.scp_sim.specs.inside.Lines.{line_of, IsInRange, IsDoneText};
 
-use scp_script::Command;
+use scp_line::below::script::Command;
 use std::alloc::{AllocError, Global};
 use std::marker::Model;
 

@@ -1,6 +1,6 @@
 //! The links between nodes.
 
-use scp_types::{Fault, NODE_LIMIT};
+use scp_again::below::types::{Fault, NODE_LIMIT};
 use std::alloc::Global;
 
 /// A link from one node to another.

@@ -1,10 +1,10 @@
 //! Which nodes are linked now, as partitions and stops come and go.
 
 use crate::world::{SimFault, World};
-use scp_core::Event;
-use scp_script::Command;
+use scp_again::below::node::Event;
+use scp_line::below::script::Command;
+use scp_line::below::turn::link_of;
 use scp_sim_options::parts;
-use scp_turn::link_of;
 
 impl<'a> World<'a> {
     /// Whether a node is stopped.

@@ -2,8 +2,8 @@
 
 use crate::due::Due;
 use crate::world::{SECOND, STALLED, SimFault, World};
-use scp_script::Command;
-use scp_types::WINDOW;
+use scp_again::below::types::WINDOW;
+use scp_line::below::script::Command;
 
 impl<'a> World<'a> {
     /// A node asks another one that applied more slots for the records of the next slots.

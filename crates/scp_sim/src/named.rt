@@ -1,10 +1,10 @@
 //! Whether the nodes that a line names can be nodes of a script.
 ghost use Rattle.std.specs.Prelude.{◌≡◌, ◌≢◌, ◌≤◌, true};
-ghost use Rattle.scp_script.specs.Nodes.{NamesNodes};
-ghost use Rattle.scp_script.specs.Script.{begins};
+ghost use Rattle.scp_line.specs.scp_script.specs.Nodes.{NamesNodes};
+ghost use Rattle.scp_line.specs.scp_script.specs.Script.{begins};
 
-use scp_script::Command;
-use scp_types::NODE_LIMIT;
+use scp_again::below::types::NODE_LIMIT;
+use scp_line::below::script::Command;
 
 /// Whether a node can have this number.
 fn is_small(node: u8) -> bool

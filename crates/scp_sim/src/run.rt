@@ -1,16 +1,17 @@
 //! A run from its beginning to its end: its script, and the reports of its nodes.
 ghost use Rattle.std.specs.Prelude.{◌≤◌, All, IfOk, string_bytes};
-ghost use Rattle.scp_script.specs.Nodes.{NamesNodes};
+ghost use Rattle.scp_line.specs.scp_script.specs.Nodes.{NamesNodes};
 ghost use Rattle.scp_sim.specs.Simulated.{IsSimulated};
 
 use crate::first::{beginning, see_numbers};
+use crate::pace::Pace;
 use crate::world::{SimFault, Simulated, World};
+use scp_again::below::types::NODE_LIMIT;
+use scp_again::below::wire::Bytes;
+use scp_line::below::script::Command;
+use scp_line::below::turn::Network;
 use scp_line::played_reports;
-use scp_script::Command;
 use scp_sim_options::Plan;
-use scp_turn::Network;
-use scp_types::NODE_LIMIT;
-use scp_wire::Bytes;
 use std::alloc::{AllocError, Global};
 
 /// The most points in time at which anything happens.
@@ -73,23 +74,30 @@ fn finish(world: &mut World<'_>) -> Result<String, SimFault> {
 }
 
 /// Plays all that happens, and then asks for the reports.
-fn run_to_the_end(world: &mut World<'_>) -> Result<String, SimFault> {
+fn run_to_the_end<P: Pace>(world: &mut World<'_>, pace: &mut P) -> Result<String, SimFault> {
     world.begin()?;
     for _ in 0..MOST_TIMES {
         if !world.next()? {
             break;
         }
+        let far = world.far();
+        pace.at(&far);
     }
     finish(world)
 }
 
-/// Simulates a plan with a seed. Refused by `Sets` if the plan's lines that give quorum sets are bad.
-pub fn simulate(alloc: Global, plan: &Plan, seed: u64) -> Result<Simulated, SimFault>
+/// Simulates a plan with a seed. `pace` is told how far it is. Refused by `Sets` if the plan's lines that give quorum sets are bad.
+pub fn simulate<P: Pace>(
+    alloc: Global,
+    plan: &Plan,
+    seed: u64,
+    pace: &mut P,
+) -> Result<Simulated, SimFault>
     ensures { IfOk result (λ run. IsSimulated plan.now (string_bytes run.script)) }
 {
     see_numbers(plan);
     let first = beginning(alloc, plan)?;
     let mut world = World::new(alloc, plan, seed, first.as_str())?;
-    let reports = run_to_the_end(&mut world)?;
+    let reports = run_to_the_end(&mut world, pace)?;
     Ok(world.into_simulated(first, reports)?)
 }

@@ -3,11 +3,11 @@
 use crate::chance::{happens, within};
 use crate::due::Due;
 use crate::world::{SimFault, World};
-use scp_core::Command as LocalCommand;
-use scp_driver::place_of;
+use scp_again::below::driver::place_of;
+use scp_again::below::node::Command as LocalCommand;
+use scp_again::below::types::{Slot, Value};
+use scp_line::below::text::value_of;
 use scp_sim_options::Proposers;
-use scp_text::value_of;
-use scp_types::{Slot, Value};
 
 impl<'a> World<'a> {
     /// The value that an actor proposes for a slot.
@@ -55,7 +55,7 @@ impl<'a> World<'a> {
         let count = usize::from(self.plan.nodes);
         match self.plan.propose {
             Proposers::All => true,
-            Proposers::Random => happens(&mut self.rng, 50),
+            Proposers::Random => happens(&mut self.rng, 500),
             Proposers::Leader => {
                 count > 0 && place_of(Slot(slot), 1, count).saturating_add(1) == usize::from(number)
             }

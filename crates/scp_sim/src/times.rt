@@ -2,7 +2,7 @@
 
 use crate::due::Due;
 use crate::world::{PATIENCE, SimFault, World};
-use scp_script::Command;
+use scp_line::below::script::Command;
 use scp_sim_options::is_marked;
 
 impl<'a> World<'a> {
@@ -28,7 +28,7 @@ impl<'a> World<'a> {
         self.act(Command::Settle)?;
         for actor in self.actors.as_mut_slice() {
             if let Some(twin) = &mut actor.twin {
-                scp_turn::settle(twin);
+                scp_line::below::turn::settle(twin);
             }
         }
         self.hand_out_all()?;
@@ -39,6 +39,7 @@ impl<'a> World<'a> {
             };
             if !self.is_down(number) {
                 self.arm(who)?;
+                self.compare(who);
                 self.go_on(who)?;
             }
         }
@@ -66,11 +67,15 @@ impl<'a> World<'a> {
         true
     }
 
-    /// Plays all that happens at the next point in time. Returns whether anything more is due.
+    /// Plays all that happens at the next point in time, unless the plan ends the run before it. Returns whether anything more is due.
     pub fn next(&mut self) -> Result<bool, SimFault> {
         let Some(time) = self.agenda.next_time() else {
             return Ok(false);
         };
+        if time > self.plan.until {
+            self.is_cut = true;
+            return Ok(false);
+        }
         self.now = time;
         for _ in 0..1_000_000 {
             match self.agenda.next_at(time) {

@@ -3,10 +3,10 @@
 use crate::chance::{happens, within};
 use crate::due::Due;
 use crate::world::{SimFault, World};
-use scp_core::Event;
-use scp_script::Command;
-use scp_turn::link_of;
-use scp_wire::Bytes;
+use scp_again::below::node::Event;
+use scp_again::below::wire::Bytes;
+use scp_line::below::script::Command;
+use scp_line::below::turn::link_of;
 
 impl<'a> World<'a> {
     /// Sends a message from one node to another. It is lost, or arrives once or twice.

@@ -3,12 +3,12 @@
 use crate::due::Due;
 use crate::world::{FLOOD, SimFault, World};
 use rand_core::Rng;
+use scp_again::below::node::{Event, Reply};
+use scp_again::below::wire::{Bytes, encode};
 use scp_again::messages_again;
-use scp_core::{Event, Reply};
+use scp_line::below::text::message_of;
+use scp_line::below::turn::link_of;
 use scp_sim_options::is_marked;
-use scp_text::message_of;
-use scp_turn::link_of;
-use scp_wire::{Bytes, encode};
 
 impl<'a> World<'a> {
     /// A node sends to another node once more what a lost connection may have lost.

@@ -1,8 +1,8 @@
 //! Nodes, their links and what is due at a point in time, and the script of all that happened.
 ghost use Rattle.std.specs.Prelude.{◌≤◌, [], All, IfOk, OnOk, string_bytes};
-ghost use Rattle.scp_types.specs.declared.limits.TheConstants.{NODE_LIMIT};
-ghost use Rattle.scp_script.specs.Nodes.{NamesNodes};
-ghost use Rattle.scp_script.specs.Script.{AreAdmitted};
+ghost use Rattle.scp_again.specs.scp_types.specs.declared.limits.TheConstants.{NODE_LIMIT};
+ghost use Rattle.scp_line.specs.scp_script.specs.Nodes.{NamesNodes};
+ghost use Rattle.scp_line.specs.scp_script.specs.Script.{AreAdmitted};
 ghost use Rattle.scp_sim.specs.inside.Follows.{IsRead, Follows};
 
 use crate::actor::Actor;
@@ -12,13 +12,13 @@ use crate::lines::Happened;
 use crate::links::Links;
 use rand_chacha::ChaCha12Rng;
 use rand_core::SeedableRng;
-use scp_core::{Config, KvDriver, Node, Peers};
+use scp_again::below::node::{Config, KvDriver, Node, Peers};
+use scp_again::below::types::Fault;
+use scp_line::below::script::{capacities_of, count_of_nodes, id_from, peers_of_node, set_of_node};
+use scp_line::below::turn::Network;
 use scp_line::{PlayFault, a_script_has_room, new_network};
-use scp_script::{capacities_of, count_of_nodes, id_from, peers_of_node, set_of_node};
 use scp_script_check::{ReadFault, Script};
 use scp_sim_options::{Plan, is_marked};
-use scp_turn::Network;
-use scp_types::Fault;
 use std::alloc::{AllocError, AllocFailed, Global};
 
 /// Milliseconds in a second.
@@ -96,6 +96,8 @@ pub struct Simulated {
     /// How long it took, in milliseconds.
     pub time: u64,
     pub counts: Counts,
+    /// Whether the plan ended it before anything else did.
+    pub is_cut: bool,
 }
 
 /// Nodes, their links, and what is due.
@@ -113,6 +115,10 @@ pub struct World<'a> {
     pub counts: Counts,
     /// When a judged node last applied a slot.
     pub moved: u64,
+    /// The first slot for which judged nodes applied different values, if there is one so far.
+    pub split: Option<u64>,
+    /// Whether the plan ended the run.
+    pub is_cut: bool,
 }
 
 // (written out, so that whoever drops one has one call to prove)
@@ -130,6 +136,8 @@ impl<'a> Drop for World<'a> {
             actors: _,
             counts: _,
             moved: _,
+            split: _,
+            is_cut: _,
         } = self;
     }
 }
@@ -221,6 +229,8 @@ impl<'a> World<'a> {
                 asked: 0,
             },
             moved: 0,
+            split: None,
+            is_cut: false,
         })
     }
 
@@ -241,6 +251,8 @@ impl<'a> World<'a> {
             actors: _,
             counts,
             moved: _,
+            split: _,
+            is_cut,
         } = self;
         let mut script = first;
         script.push_str(happened.text())?;
@@ -249,6 +261,7 @@ impl<'a> World<'a> {
             reports,
             time: now,
             counts,
+            is_cut,
         })
     }
 

@@ -1,7 +1,7 @@
 -- Parts of parts, and lines that are left out.
-use Rattle.std.proofs.Common.{◌≡◌, ℕ, List, [], ◌∷◌, ◌++◌, refl, ◌∙◌, inl, inr, ⊎_elim}
-use Rattle.std.specs.Prelude.{◌⊎◌, map}
-use Rattle.scp_sim_findings.specs.Shrunk.{IsPart}
+use Rattle.std.proofs.Common.{◌≡◌, ℕ, Bool, true, false, List, [], ◌∷◌, ◌++◌, refl, sym, ap, ◌∙◌, inl, inr, ⊎_elim}
+use Rattle.std.specs.Prelude.{◌⊎◌, filter, map, if◌then◌else◌}
+use Rattle.scp_sim_findings.specs.Shrunk.{IsPart, IsSmaller, is_kept}
 
 -- nothing is a part of all
 pub nothing_part : (all : List (List ℕ)) → IsPart [] all
@@ -28,13 +28,51 @@ part_of_part (line ∷ some) (m ∷ more) (other ∷ all) p q =
     (λ (behind : IsPart (m ∷ more) all). inr (part_of_part (line ∷ some) (m ∷ more) all p behind))
     q
 
--- those behind others are a part
-pub behind_part : {X : Type 0} (f : X → List ℕ) (b c : List X) → IsPart (map f c) (map f (b ++ c))
-behind_part f [] c = whole_part (map f c)
-behind_part f (x ∷ b) [] = nothing_part (map f (b ++ []))
-behind_part f (x ∷ b) (y ∷ c) = inr (behind_part f b (y ∷ c))
+-- one more behind the part
+pub later_part : (some all : List (List ℕ)) (other : List ℕ) → IsPart some all → IsPart some (other ∷ all)
+later_part [] all other p = p
+later_part (line ∷ some) all other p = inr p
 
--- some in the middle are left out
-pub middle_out : {X : Type 0} (f : X → List ℕ) (a b c : List X) → IsPart (map f (a ++ c)) (map f (a ++ (b ++ c)))
-middle_out f [] b c = behind_part f b c
-middle_out f (x ∷ a) b c = inl (refl, middle_out f a b c)
+-- those that are never left out
+abbrev pub kept : {X : Type 0} → (X → List ℕ) → List X → List X
+kept f b = filter (λ x. is_kept (f x)) b
+
+kept_one : {X : Type 0} (f : X → List ℕ) (x : X) (b c : List X) (yes : Bool)
+    → IsPart (map f (kept f b ++ c)) (map f (b ++ c))
+    → IsPart (map f ((if yes then x ∷ kept f b else kept f b) ++ c)) (f x ∷ map f (b ++ c))
+kept_one f x b c true p = inl (refl, p)
+kept_one f x b c false p = later_part (map f (kept f b ++ c)) (map f (b ++ c)) (f x) p
+
+kept_part : {X : Type 0} (f : X → List ℕ) (b c : List X) → IsPart (map f (kept f b ++ c)) (map f (b ++ c))
+kept_part f [] c = whole_part (map f c)
+kept_part f (x ∷ b) c = kept_one f x b c (is_kept (f x)) (kept_part f b c)
+
+same_one : {X : Type 0} (f : X → List ℕ) (x : X) (b c : List X) (yes : Bool) → is_kept (f x) ≡ yes
+    → filter is_kept (map f (kept f b ++ c)) ≡ filter is_kept (map f (b ++ c))
+    → filter is_kept (map f ((if yes then x ∷ kept f b else kept f b) ++ c)) ≡ filter is_kept (f x ∷ map f (b ++ c))
+same_one f x b c true e is = ap (λ (r : List (List ℕ)). if is_kept (f x) then f x ∷ r else r) is
+same_one f x b c false e is =
+    let all : List (List ℕ) = filter is_kept (map f (b ++ c)) in
+    is ∙ ap (λ (yes : Bool). if yes then f x ∷ all else all) (sym e)
+
+same_kept : {X : Type 0} (f : X → List ℕ) (b c : List X) → filter is_kept (map f (kept f b ++ c)) ≡ filter is_kept (map f (b ++ c))
+same_kept f [] c = refl
+same_kept f (x ∷ b) c = same_one f x b c (is_kept (f x)) refl (same_kept f b c)
+
+middle_part : {X : Type 0} (f : X → List ℕ) (a b c : List X) → IsPart (map f (a ++ (kept f b ++ c))) (map f (a ++ (b ++ c)))
+middle_part f [] b c = kept_part f b c
+middle_part f (x ∷ a) b c = inl (refl, middle_part f a b c)
+
+middle_kept : {X : Type 0} (f : X → List ℕ) (a b c : List X) → filter is_kept (map f (a ++ (kept f b ++ c))) ≡ filter is_kept (map f (a ++ (b ++ c)))
+middle_kept f [] b c = same_kept f b c
+middle_kept f (x ∷ a) b c = ap (λ (r : List (List ℕ)). if is_kept (f x) then f x ∷ r else r) (middle_kept f a b c)
+
+-- of some in the middle only those stay that are never left out
+pub middle_out : {X : Type 0} (f : X → List ℕ) (a b c : List X) → IsSmaller (map f (a ++ (kept f b ++ c))) (map f (a ++ (b ++ c)))
+middle_out f a b c = record { part = middle_part f a b c; kept = middle_kept f a b c }
+
+pub whole_smaller : (all : List (List ℕ)) → IsSmaller all all
+whole_smaller all = record { part = whole_part all; kept = refl }
+
+pub smaller_of_smaller : (some more all : List (List ℕ)) → IsSmaller some more → IsSmaller more all → IsSmaller some all
+smaller_of_smaller some more all p q = record { part = part_of_part some more all p.part q.part; kept = p.kept ∙ q.kept }

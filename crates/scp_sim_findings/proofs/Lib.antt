@@ -1,3 +1,4 @@
+pub mod Aiming
 pub mod Keeping
 pub mod Telling
 pub mod Texts

@@ -3,7 +3,7 @@ use Rattle.std.proofs.Common.{ℕ, Bool, List, Some, None}
 use Rattle.scp_sim_findings.specs.declared.outcome.Finding.{Finding}
 use Rattle.scp_sim_findings.specs.declared.outcome.Finding.TheVariants.{Split, Stuck, Cut}
 use Rattle.scp_sim_findings.specs.Outcome.{IsFound, IsWorse, IsWorst}
-use Rattle.scp_turn.specs.Heard.{Nodes}
+use Rattle.scp_notices.specs.scp_turn.specs.Heard.{Nodes}
 use Rattle.scp_notices.specs.declared.notice.Notice.{Notice}
 
 pub worst_split : (marks : List Bool) (slots : ℕ) (nodes : Nodes) (notices : List Notice) → IsFound Split marks slots nodes notices → IsWorst (Some Split) marks slots nodes notices

@@ -1,15 +1,15 @@
 -- What became of messages and connections, by kinds (this project's profile).
 use Rattle.std.specs.Prelude.{ℕ, ◌+◌, List, [], ◌∷◌, ◌++◌, codes, filter, length, nat_eq, if◌then◌else◌}
 use Rattle.std.specs.Fmt.{decimal}
-use Rattle.scp_ledger.specs.declared.journal.Fate.{Fate}
-use Rattle.scp_ledger.specs.declared.journal.Fate.TheVariants.{Taken, Dropped, Closed}
-use Rattle.scp_ledger.specs.declared.journal.Verdict.{Verdict}
-use Rattle.scp_ledger.specs.declared.journal.Verdict.TheVariants as verdict
-use Rattle.scp_turn.specs.Heard.{Nodes}
-use Rattle.scp_pending.specs.declared.ready.DropCause.{DropCause}
-use Rattle.scp_pending.specs.declared.ready.DropCause.TheVariants as drop
-use Rattle.scp_wire.specs.declared.link.Cause.{Cause}
-use Rattle.scp_wire.specs.declared.link.Cause.TheVariants as cause
+use Rattle.scp_notices.specs.scp_ledger.specs.declared.journal.Fate.{Fate}
+use Rattle.scp_notices.specs.scp_ledger.specs.declared.journal.Fate.TheVariants.{Taken, Dropped, Closed}
+use Rattle.scp_notices.specs.scp_ledger.specs.declared.journal.Verdict.{Verdict}
+use Rattle.scp_notices.specs.scp_ledger.specs.declared.journal.Verdict.TheVariants as verdict
+use Rattle.scp_notices.specs.scp_turn.specs.Heard.{Nodes}
+use Rattle.scp_notices.specs.scp_pending.specs.declared.ready.DropCause.{DropCause}
+use Rattle.scp_notices.specs.scp_pending.specs.declared.ready.DropCause.TheVariants as drop
+use Rattle.scp_script_hints.specs.scp_wire.specs.declared.link.Cause.{Cause}
+use Rattle.scp_script_hints.specs.scp_wire.specs.declared.link.Cause.TheVariants as cause
 
 -- The words of the kinds of fates, in their order.
 abbrev pub kinds : List (List ℕ)

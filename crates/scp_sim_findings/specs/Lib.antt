@@ -1,7 +1,10 @@
+pub mod Apart
 pub mod Fates
+pub mod Needs
 pub mod Outcome
 pub mod Replayed
 pub mod Sets
 pub mod Shrunk
 pub mod Sums
 pub mod Told
+pub mod inside

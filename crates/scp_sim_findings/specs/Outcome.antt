@@ -2,8 +2,8 @@
 use Rattle.std.specs.Prelude.{ℕ, ◌+◌, ◌≡◌, ◌<◌, Bool, true, false, Option, Some, None, List, [], ◌∷◌, ◌++◌, codes, filter, get_or, length, min, nat_le, nat_lt, if◌then◌else◌}
 use Rattle.std.specs.List.{list_any}
 use Rattle.std.specs.Fmt.{decimal}
-use Rattle.scp_core.specs.Kv.{NodeView}
-use Rattle.scp_turn.specs.Heard.{Nodes}
+use Rattle.scp_notices.specs.scp_core.specs.Kv.{NodeView}
+use Rattle.scp_notices.specs.scp_turn.specs.Heard.{Nodes}
 use Rattle.scp_notices.specs.declared.notice.Notice.{Notice}
 use Rattle.scp_notices.specs.declared.notice.Notice.TheVariants.{Unsettled, GaveUp, Disagree, Ignored, Overwritten, NoWait}
 use Rattle.scp_notices.specs.declared.notice.Side.{Side}

@@ -1,11 +1,11 @@
 -- A script that was played once more (this project's profile).
 use Rattle.std.specs.Prelude.{ℕ, ◌≡◌, Bool, List}
-use Rattle.scp_line.specs.scp_report.specs.Node.{reports_of}
-use Rattle.scp_line.specs.scp_report.specs.Reports.{settled_text}
-use Rattle.scp_turn.specs.Network.{NetworkView}
+use Rattle.scp_notices.specs.scp_report.specs.Node.{reports_of}
+use Rattle.scp_notices.specs.scp_report.specs.Reports.{settled_text}
+use Rattle.scp_notices.specs.scp_turn.specs.Network.{NetworkView}
 use Rattle.scp_notices.specs.declared.notice.Notice.{Notice}
 use Rattle.scp_notices.specs.Run.{IsRan}
-use Rattle.scp_script_check.specs.declared.reading.Script.{Script}
+use Rattle.scp_notices.specs.scp_script_check.specs.declared.reading.Script.{Script}
 use Rattle.scp_sim_findings.specs.declared.outcome.Finding.{Finding}
 use Rattle.scp_sim_findings.specs.Outcome.{IsFound}
 

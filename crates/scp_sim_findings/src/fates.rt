@@ -3,7 +3,7 @@ ghost use Rattle.std.specs.Prelude.{◌≡◌, ◌≤◌, ◌+◌, ◌*◌, ◌+
 ghost use Rattle.scp_sim_findings.specs.Fates.{kinds, place_of_verdict, place_of_drop, place_of_cause, place_of, count_in, count_of, kind_line, kind_lines, fates_text};
 ghost use Rattle.scp_sim_findings.specs.Outcome.{judged_of};
 
-use scp_core::{Cause, DropCause, Fate, Node, Verdict};
+use scp_notices::below::node::{Cause, DropCause, Fate, Node, Verdict};
 use std::alloc::AllocError;
 
 /// The words of the kinds of fates, in their order.

@@ -5,9 +5,9 @@ ghost use Rattle.scp_notices.specs.Texts.{notices_text};
 ghost use Rattle.scp_sim_findings.specs.Outcome.{judged_of, closed_by, is_judged, has_judged, is_split, cut_of, IsFound, IsWorst, stuck_line, stuck_lines, outcome_text};
 
 use crate::fates::{count_of, write_fates};
-use scp_core::Node;
+use scp_notices::below::node::Node;
 use scp_notices::{Notice, Side, text_of_notices};
-use scp_types::NODE_LIMIT;
+use scp_script_hints::below::types::NODE_LIMIT;
 use std::alloc::{AllocError, Global};
 
 /// Which nodes are judged, as a mark for each node from 1 on, and how many slots they were to apply.

@@ -1,15 +1,15 @@
 //! How a script is played once more.
-ghost use Rattle.scp_script.specs.Nodes.{NamesNodes};
+ghost use Rattle.scp_script_hints.specs.scp_script.specs.Nodes.{NamesNodes};
 ghost use Rattle.std.specs.Prelude.{◌≡◌, ◌≤◌, length, All, IfOk, IsTrue, string_bytes};
-ghost use Rattle.scp_types.specs.declared.limits.TheConstants.{NODE_LIMIT};
-ghost use Rattle.scp_line.specs.scp_report.specs.Node.{reports_of as records_of};
-ghost use Rattle.scp_line.specs.scp_report.specs.Reports.{settled_text};
+ghost use Rattle.scp_script_hints.specs.scp_types.specs.declared.limits.TheConstants.{NODE_LIMIT};
+ghost use Rattle.scp_notices.specs.scp_report.specs.Node.{reports_of as records_of};
+ghost use Rattle.scp_notices.specs.scp_report.specs.Reports.{settled_text};
 ghost use Rattle.scp_sim_findings.specs.Replayed.{IsReplayed, ComesTo};
 
 use crate::outcome::{Finding, Judging, is_found};
-use scp_line::played_reports;
+use scp_notices::below::line::played_reports;
+use scp_notices::below::script_check::ReadFault;
 use scp_notices::{Ran, RunFault, run};
-use scp_script_check::ReadFault;
 use std::alloc::{AllocError, Global};
 
 /// Why a script couldn't be played once more.

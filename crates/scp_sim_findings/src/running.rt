@@ -1,15 +1,16 @@
 //! One run: simulated, played once more, and reported.
-ghost use Rattle.std.specs.Prelude.{◌≡◌, IfOk, IfErr, length, string_bytes};
-ghost use Rattle.scp_script_text.specs.Scripts.{IsScriptOf};
-ghost use Rattle.scp_sim_findings.specs.Sets.{HaveNoDigits, bad_line_of};
-ghost use Rattle.scp_sim_findings.specs.Told.{is_judged_at, marks_of, counted_text, IsTold, IsToldOf};
+ghost use Rattle.std.specs.Prelude.{◌≡◌, ◌++◌, IfOk, IfErr, OnOk, length, string_bytes};
+ghost use Rattle.scp_notices.specs.scp_script_text.specs.Scripts.{IsScriptOf};
+ghost use Rattle.scp_sim_findings.specs.Sets.{HaveNoDigits, bad_sets_of};
+ghost use Rattle.scp_sim_findings.specs.Told.{is_judged_at, marks_of, slots_for, counted_text, cut_text, IsTold, IsToldOf};
 
 use crate::outcome::{Finding, Judging, closed, finding_of, write_outcome};
 use crate::replaying::{ReplayFault, replayed};
-use scp_script_check::ReadFault;
-use scp_script_text::{Form, Kind, rewrite};
-use scp_sim::{Counts, SimFault, Simulated, simulate};
-use scp_sim_options::Plan;
+use scp_notices::below::node::Node;
+use scp_notices::below::script_check::{BadLine, ReadFault};
+use scp_notices::below::script_text::{Form, Kind, rewrite};
+use scp_sim::below::sim_options::Plan;
+use scp_sim::{Counts, Pace, SimFault, Simulated, simulate};
 use std::alloc::{AllocError, Global};
 use std::str;
 
@@ -18,6 +19,8 @@ use std::str;
 pub struct Told {
     /// The script of all that happened, as text.
     pub script: Vec<u8>,
+    /// Some of its lines, which come to the same finding, if it was shrunk.
+    pub shrunk: Option<Vec<u8>>,
     /// The text of the report.
     pub text: String,
     /// The worst finding.
@@ -43,6 +46,8 @@ pub enum ToldFault {
 #[derive(Clone, Copy, PartialEq, Eq)]
 pub enum BadSets {
     NoMemory,
+    /// This word of a line is bad.
+    Word(BadLine),
     /// This line, counted from 1, is bad.
     Line(usize),
 }
@@ -55,7 +60,8 @@ impl From<AllocError> for ToldFault {
     }
 }
 
-/// The lines that give quorum sets, with digits in place of text. Refused with the number of the bad line, counted from 1.
+/// The lines that give quorum sets, with digits in place of text. Refused with the first bad word, or with the number of a bad line, counted
+/// from 1.
 pub fn sets_of(alloc: Global, text: &[u8]) -> Result<String, BadSets>
     ensures sets { IfOk result (λ sets. IsScriptOf Kind.Nodes Form.Hex text.now (string_bytes sets)) }
     ensures refused { IfErr result (HaveNoDigits text.now) }
@@ -63,7 +69,7 @@ pub fn sets_of(alloc: Global, text: &[u8]) -> Result<String, BadSets>
     let digits = match rewrite(alloc, Kind::Nodes, Form::Hex, text) {
         Ok(digits) => digits,
         Err(ReadFault::NoMemory) => return Err(BadSets::NoMemory),
-        Err(ReadFault::Bad(bad)) => return Err(BadSets::Line(bad.line)),
+        Err(ReadFault::Bad(bad)) => return Err(BadSets::Word(bad)),
         Err(ReadFault::BadAt(line)) => return Err(BadSets::Line(line)),
     };
     let Ok(digits) = str::from_utf8(digits.as_slice()) else {
@@ -75,14 +81,19 @@ pub fn sets_of(alloc: Global, text: &[u8]) -> Result<String, BadSets>
     }
 }
 
-/// The first bad line among those that give quorum sets, counted from 1, if a bad line is why nothing is reported.
-pub fn bad_set_line(fault: ToldFault) -> Option<usize>
-    ensures { result ≡ bad_line_of fault }
+/// What is bad among the lines that give quorum sets, if that is why nothing is reported.
+pub fn bad_sets(fault: ToldFault) -> Option<BadSets>
+    ensures { result ≡ bad_sets_of fault }
 {
     // (in the script, one line comes before them, which says how many nodes there are)
     match fault {
-        ToldFault::Sim(SimFault::Sets(ReadFault::Bad(bad))) => Some(bad.line.saturating_sub(1)),
-        ToldFault::Sim(SimFault::Sets(ReadFault::BadAt(line))) => Some(line.saturating_sub(1)),
+        ToldFault::Sim(SimFault::Sets(ReadFault::Bad(bad))) => Some(BadSets::Word(BadLine {
+            line: bad.line.saturating_sub(1),
+            bad: bad.bad,
+        })),
+        ToldFault::Sim(SimFault::Sets(ReadFault::BadAt(line))) => {
+            Some(BadSets::Line(line.saturating_sub(1)))
+        }
         _ => None,
     }
 }
@@ -116,6 +127,22 @@ pub fn judging_of(plan: &Plan) -> Judging
     }
 }
 
+/// Which nodes are judged, and how many slots they were to apply. A run that the plan ended has as many slots as they all applied.
+fn judging_for(plan: &Plan, is_cut: bool, nodes: &[Node]) -> Judging
+    ensures marks { result.marks ≡ marks_of plan.now }
+    ensures slots { result.slots ≡ slots_for plan.now is_cut nodes.now }
+{
+    let judging = judging_of(plan);
+    if is_cut {
+        let slots = closed(judging.slots, &judging.marks, nodes);
+        return Judging {
+            marks: judging.marks,
+            slots,
+        };
+    }
+    judging
+}
+
 /// The lines of what the simulation counted.
 fn counted(alloc: Global, seed: u64, run: &Simulated, script: &[u8]) -> Result<String, AllocError>
     ensures { IfOk result (λ text. string_bytes text ≡ counted_text seed run.now.time run.now.counts (length script.now)) }
@@ -139,6 +166,31 @@ fn counted(alloc: Global, seed: u64, run: &Simulated, script: &[u8]) -> Result<S
     Ok(text)
 }
 
+/// Adds the line of a run that the plan ended.
+fn write_cut(text: &mut String, is_cut: bool, slots: u64) -> Result<(), AllocError>
+    ensures { OnOk result (string_bytes text.new ≡ string_bytes text.old ++ cut_text is_cut slots) }
+{
+    if !is_cut {
+        return Ok(());
+    }
+    writeln!(text, "ended before {slots} slots were closed")
+}
+
+/// The lines of what the simulation counted, and of its end if the plan ended it.
+fn first_lines(
+    alloc: Global,
+    plan: &Plan,
+    seed: u64,
+    run: &Simulated,
+    script: &[u8],
+) -> Result<String, AllocError>
+    ensures { IfOk result (λ text. string_bytes text ≡ counted_text seed run.now.time run.now.counts (length script.now) ++ cut_text run.now.is_cut plan.now.slots) }
+{
+    let mut text = counted(alloc, seed, run, script)?;
+    write_cut(&mut text, run.is_cut, plan.slots)?;
+    Ok(text)
+}
+
 /// The script as text.
 fn as_text(alloc: Global, digits: &[u8]) -> Result<Vec<u8>, ToldFault>
     ensures { IfOk result (λ text. IsScriptOf Kind.Nodes Form.Text digits.now text.items) }
@@ -159,14 +211,15 @@ fn tell(alloc: Global, plan: &Plan, seed: u64, run: &Simulated) -> Result<Told, 
         Ok(ran) => ran,
         Err(fault) => return Err(ToldFault::Replay(fault)),
     };
-    let judging = judging_of(plan);
     let (nodes, notices) = (ran.network.nodes(), ran.notices.as_slice());
-    let mut text = counted(alloc, seed, run, script.as_slice())?;
+    let judging = judging_for(plan, run.is_cut, nodes);
+    let mut text = first_lines(alloc, plan, seed, run, script.as_slice())?;
     write_outcome(alloc, &mut text, &judging, nodes, notices)?;
     let finding = finding_of(&judging, nodes, notices);
     let closed = closed(judging.slots, &judging.marks, nodes);
     Ok(Told {
         script,
+        shrunk: None,
         text,
         finding,
         closed,
@@ -175,12 +228,17 @@ fn tell(alloc: Global, plan: &Plan, seed: u64, run: &Simulated) -> Result<Told, 
     })
 }
 
-/// Simulates a plan with a seed, plays its script once more, and reports the outcome.
+/// Simulates a plan with a seed, plays its script once more, and reports the outcome. `pace` is told how far the simulation is.
 #[tactic(auto, using(crate::proofs::Telling::told_of))]
-pub fn tell_run(alloc: Global, plan: &Plan, seed: u64) -> Result<Told, ToldFault>
+pub fn tell_run<P: Pace>(
+    alloc: Global,
+    plan: &Plan,
+    seed: u64,
+    pace: &mut P,
+) -> Result<Told, ToldFault>
     ensures { IfOk result (IsToldOf plan.now seed) }
 {
-    match simulate(alloc, plan, seed) {
+    match simulate(alloc, plan, seed, pace) {
         Ok(run) => tell(alloc, plan, seed, &run),
         Err(SimFault::NoMemory) => Err(ToldFault::NoMemory),
         Err(fault) => Err(ToldFault::Sim(fault)),

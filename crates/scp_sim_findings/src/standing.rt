@@ -1,10 +1,11 @@
 //! The status of the nodes of a run at its end.
 ghost use Rattle.std.specs.Prelude.{◌≡◌, ◌<◌, ◌≤◌, IfOk, IfSome, OnOk, string_bytes};
-ghost use Rattle.scp_sim_findings.specs.Told.{IsStandOf, TellsStand};
+ghost use Rattle.scp_sim_findings.specs.Needs.{IsStandOf};
+ghost use Rattle.scp_sim_findings.specs.Told.{TellsStand};
 
 use crate::running::Told;
-use scp_script_check::ReadFault;
-use scp_sim_options::Plan;
+use scp_notices::below::script_check::ReadFault;
+use scp_sim::below::sim_options::Plan;
 use scp_trace::{Depth, trace};
 use std::alloc::{AllocError, Global};
 

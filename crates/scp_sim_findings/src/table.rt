@@ -4,7 +4,7 @@ ghost use Rattle.scp_sim_findings.specs.Sums.{with_finding, with_run, no_runs, w
 
 use crate::outcome::Finding;
 use crate::running::Told;
-use scp_sim_options::Plan;
+use scp_sim::below::sim_options::Plan;
 use std::alloc::AllocError;
 
 /// The word for a finding.

@@ -9,6 +9,6 @@ mod plan;
 mod table;
 mod words;
 
-pub use options::{BadOption, SIM, SIM_HELP, SimAsked, Unplanned, sim_by};
+pub use options::{BadOption, SIM, SimAsked, Unplanned, sim_by};
 pub use plan::{Crash, Partition, Plan, Proposers, Span, is_marked, parts};
 pub use table::{Entry, Place, Word};

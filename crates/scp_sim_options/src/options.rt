@@ -2,7 +2,7 @@
 
 use crate::plan::{Crash, Partition, Plan, Proposers, Span, mark};
 use crate::table::{Entry, Word};
-use crate::words::{crash_of, node_of, number_of, partition_of, percent_of, span_of};
+use crate::words::{crash_of, node_of, number_of, partition_of, span_of, thousandths_of};
 use clap::ArgMatches;
 use clap::builder::ValueParser;
 use scp_types::NODE_LIMIT;
@@ -41,6 +41,12 @@ pub static SIM: Entry = Entry {
             ..Word::OPTION
         },
         Word {
+            name: "until",
+            value: &["MS"],
+            help: "Ends a run at this time, though not all slots are closed",
+            ..Word::OPTION
+        },
+        Word {
             name: "seed",
             value: &["N"],
             help: "What is left to chance",
@@ -73,7 +79,7 @@ pub static SIM: Entry = Entry {
         Word {
             name: "drop",
             value: &["P%"],
-            help: "Of a hundred messages so many are lost",
+            help: "Of a hundred messages so many are lost, as 5% or 5.5%",
             default: &["0%"],
             ..Word::OPTION
         },
@@ -104,20 +110,20 @@ pub static SIM: Entry = Entry {
         },
         Word {
             name: "silent",
-            value: &["I"],
-            help: "Of node I nothing is heard",
+            value: &["I,J"],
+            help: "Of these nodes nothing is heard",
             ..Word::MANY
         },
         Word {
             name: "equivocate",
-            value: &["I"],
-            help: "Node I says different things to different nodes",
+            value: &["I,J"],
+            help: "These nodes say different things to different nodes",
             ..Word::MANY
         },
         Word {
             name: "flood",
-            value: &["I"],
-            help: "Node I says what is old, and what can't be judged",
+            value: &["I,J"],
+            help: "These nodes say what is old, and what can't be judged",
             ..Word::MANY
         },
         // what becomes of the script
@@ -130,21 +136,22 @@ pub static SIM: Entry = Entry {
         },
         Word {
             name: "shrink",
-            help: "Leaves out lines of the script as long as it comes to the same",
+            help: "Leaves out lines of the script as long as it comes to the same; the whole one is written to FILE.whole",
             not_with: &["seeds"],
             ..Word::FLAG
         },
     ],
-};
+    end: "Example:
+  bowls sim --nodes 7 --need 5 --seed 3 --drop 10% --script lost.scp
 
-/// The end of the help of the command of a simulation.
-pub static SIM_HELP: &str = "Faults:
+Faults:
   A message that is lost doesn't come. Without --reorder those of a link come in the order in which they were sent.
   Nodes of two sides of a partition aren't linked, nor is a node that stops; links are made anew behind that, and what was said last is said again.
   A silent node hears. One that equivocates says one thing to the first half of the nodes, another to the second; one that floods says what is old,
   and names quorum sets that nobody has. These two aren't judged.
 
-Times are in milliseconds. The same words give the same bytes.";
+Times are in milliseconds. The same words give the same bytes.",
+};
 
 /// What is asked of a simulation.
 #[derive(Drop)]
@@ -161,38 +168,43 @@ pub struct SimAsked<'a> {
     pub shrink: bool,
 }
 
-/// The first option whose word isn't valid, and what was expected there.
+/// The first option whose word isn't valid, that word, and what was expected there.
 #[derive(Clone, Copy)]
-pub struct BadOption {
+pub struct BadOption<'a> {
     pub option: &'static str,
+    pub word: &'a str,
     pub expected: &'static str,
 }
 
 /// Why the options ask for no simulation.
 #[derive(Clone, Copy)]
-pub enum Unplanned {
-    Bad(BadOption),
+pub enum Unplanned<'a> {
+    Bad(BadOption<'a>),
     NoMemory,
 }
 
-impl From<AllocError> for Unplanned {
+impl<'a> From<AllocError> for Unplanned<'a> {
     ghost from_gives = { λ _ _. Unit {0} };
 
-    fn from(_e: AllocError) -> Unplanned {
+    fn from(_e: AllocError) -> Unplanned<'a> {
         Unplanned::NoMemory
     }
 }
 
-impl<T: Drop> From<AllocFailed<T>> for Unplanned {
+impl<'a, T: Drop> From<AllocFailed<T>> for Unplanned<'a> {
     ghost from_gives = { λ _ _. Unit {0} };
 
-    fn from(_e: AllocFailed<T>) -> Unplanned {
+    fn from(_e: AllocFailed<T>) -> Unplanned<'a> {
         Unplanned::NoMemory
     }
 }
 
-fn bad(option: &'static str, expected: &'static str) -> Unplanned {
-    Unplanned::Bad(BadOption { option, expected })
+fn bad<'a>(option: &'static str, word: &'a str, expected: &'static str) -> Unplanned<'a> {
+    Unplanned::Bad(BadOption {
+        option,
+        word,
+        expected,
+    })
 }
 
 /// The word of an option, or an empty word.
@@ -200,33 +212,51 @@ fn word<'a>(matches: &ArgMatches<'a>, option: &str) -> &'a str {
     matches.get_str(option).unwrap_or("")
 }
 
+/// Marks the nodes that a word names, as `1,2`. Returns whether it names nodes, each of them at most `count`.
+fn mark_each(marks: &mut [bool; NODE_LIMIT], word: &str, count: u8) -> bool {
+    for part in word.split(',') {
+        match node_of(part) {
+            Some(node) if node <= count => mark(marks, node),
+            _ => return false,
+        }
+    }
+    true
+}
+
 /// The nodes that an option names, each marked.
-fn marks(
-    matches: &ArgMatches<'_>,
+fn marks<'a>(
+    matches: &ArgMatches<'a>,
     option: &'static str,
     count: u8,
-) -> Result<[bool; NODE_LIMIT], Unplanned> {
+) -> Result<[bool; NODE_LIMIT], Unplanned<'a>> {
     let mut marks = [false; NODE_LIMIT];
     let Some(words) = matches.get_strs(option) else {
         return Ok(marks);
     };
     for word in words {
-        match node_of(word) {
-            Some(node) if node <= count => mark(&mut marks, node),
-            _ => return Err(bad(option, "the number of a node")),
+        if !mark_each(&mut marks, *word, count) {
+            return Err(bad(option, *word, "numbers of nodes, as 1,2"));
         }
     }
     Ok(marks)
 }
 
 /// The number of nodes that a quorum set needs, out of `count`: the number that is given, else all but a third.
-fn need(matches: &ArgMatches<'_>, count: u8) -> Result<u8, Unplanned> {
+fn need<'a>(matches: &ArgMatches<'a>, count: u8) -> Result<u8, Unplanned<'a>> {
     match matches.get_str("need") {
         None => Ok(count.saturating_sub(count.saturating_sub(1) / 3)),
         Some(word) => match node_of(word) {
             Some(need) if need <= count => Ok(need),
-            _ => Err(bad("need", "a number, 1 to that of the nodes")),
+            _ => Err(bad("need", word, "a number, 1 to that of the nodes")),
         },
+    }
+}
+
+/// The time at which a run ends at the latest: that which is given, else the last there is.
+fn until<'a>(matches: &ArgMatches<'a>) -> Result<u64, Unplanned<'a>> {
+    match matches.get_str("until") {
+        None => Ok(u64::MAX),
+        Some(word) => number_of(word).ok_or(bad("until", word, "a number of milliseconds")),
     }
 }
 
@@ -240,21 +270,25 @@ fn proposers(matches: &ArgMatches<'_>) -> Proposers {
 }
 
 /// The seeds of the runs.
-fn seeds(matches: &ArgMatches<'_>) -> Result<Span, Unplanned> {
+fn seeds<'a>(matches: &ArgMatches<'a>) -> Result<Span, Unplanned<'a>> {
     if let Some(word) = matches.get_str("seeds") {
-        return span_of(word).ok_or(bad("seeds", "two numbers, as 1..100"));
+        return span_of(word).ok_or(bad("seeds", word, "two numbers, as 1..100"));
     }
-    match number_of(word(matches, "seed")) {
+    let word = word(matches, "seed");
+    match number_of(word) {
         Some(seed) => Ok(Span {
             from: seed,
             to: seed,
         }),
-        None => Err(bad("seed", "a number, below 2^64")),
+        None => Err(bad("seed", word, "a number, below 2^64")),
     }
 }
 
 /// The partitions that the options give.
-fn partitions(alloc: Global, matches: &ArgMatches<'_>) -> Result<Vec<Partition>, Unplanned> {
+fn partitions<'a>(
+    alloc: Global,
+    matches: &ArgMatches<'a>,
+) -> Result<Vec<Partition>, Unplanned<'a>> {
     let mut partitions = Vec::new(alloc);
     let Some(words) = matches.get_strs("partition") else {
         return Ok(partitions);
@@ -264,6 +298,7 @@ fn partitions(alloc: Global, matches: &ArgMatches<'_>) -> Result<Vec<Partition>,
             Some(partition) => partitions.push(partition)?,
             None => return Err(bad(
                 "partition",
+                *word,
                 "sides of nodes and a time, as 1,2|3,4@100..900",
             )),
         }
@@ -272,7 +307,11 @@ fn partitions(alloc: Global, matches: &ArgMatches<'_>) -> Result<Vec<Partition>,
 }
 
 /// The stops that the options give; `count` is the number of nodes.
-fn crashes(alloc: Global, matches: &ArgMatches<'_>, count: u8) -> Result<Vec<Crash>, Unplanned> {
+fn crashes<'a>(
+    alloc: Global,
+    matches: &ArgMatches<'a>,
+    count: u8,
+) -> Result<Vec<Crash>, Unplanned<'a>> {
     let mut crashes = Vec::new(alloc);
     let Some(words) = matches.get_strs("crash") else {
         return Ok(crashes);
@@ -280,30 +319,45 @@ fn crashes(alloc: Global, matches: &ArgMatches<'_>, count: u8) -> Result<Vec<Cra
     for word in words {
         match crash_of(word) {
             Some(crash) if crash.node <= count => crashes.push(crash)?,
-            _ => return Err(bad("crash", "a node and a time, as 3@500..900")),
+            _ => return Err(bad("crash", *word, "a node and a time, as 3@500..900")),
         }
     }
     Ok(crashes)
 }
 
+/// How many nodes there are.
+fn nodes<'a>(matches: &ArgMatches<'a>) -> Result<u8, Unplanned<'a>> {
+    let word = word(matches, "nodes");
+    node_of(word).ok_or(bad("nodes", word, "a number, 1 to 8"))
+}
+
+/// How many slots are to be closed.
+fn slots<'a>(matches: &ArgMatches<'a>) -> Result<u64, Unplanned<'a>> {
+    let word = word(matches, "slots");
+    number_of(word).ok_or(bad("slots", word, "a number, below 2^64"))
+}
+
+/// How long a message travels.
+fn delay<'a>(matches: &ArgMatches<'a>) -> Result<Span, Unplanned<'a>> {
+    let word = word(matches, "delay");
+    span_of(word).ok_or(bad("delay", word, "two numbers of milliseconds, as 10..200"))
+}
+
+/// How many messages of a thousand, by an option that gives a percentage.
+fn thousandths<'a>(matches: &ArgMatches<'a>, option: &'static str) -> Result<u16, Unplanned<'a>> {
+    let word = word(matches, option);
+    thousandths_of(word).ok_or(bad(option, word, "0% to 100%, as 5% or 5.5%"))
+}
+
 /// What is simulated.
-fn plan_of(alloc: Global, matches: &ArgMatches<'_>) -> Result<Plan, Unplanned> {
-    let Some(nodes) = node_of(word(matches, "nodes")) else {
-        return Err(bad("nodes", "a number, 1 to 8"));
-    };
+fn plan_of<'a>(alloc: Global, matches: &ArgMatches<'a>) -> Result<Plan, Unplanned<'a>> {
+    let nodes = nodes(matches)?;
     let need = need(matches, nodes)?;
-    let Some(slots) = number_of(word(matches, "slots")) else {
-        return Err(bad("slots", "a number, below 2^64"));
-    };
-    let Some(delay) = span_of(word(matches, "delay")) else {
-        return Err(bad("delay", "two numbers of milliseconds, as 10..200"));
-    };
-    let Some(drop) = percent_of(word(matches, "drop")) else {
-        return Err(bad("drop", "0% to 100%"));
-    };
-    let Some(duplicate) = percent_of(word(matches, "duplicate")) else {
-        return Err(bad("duplicate", "0% to 100%"));
-    };
+    let slots = slots(matches)?;
+    let until = until(matches)?;
+    let delay = delay(matches)?;
+    let drop = thousandths(matches, "drop")?;
+    let duplicate = thousandths(matches, "duplicate")?;
     let silent = marks(matches, "silent", nodes)?;
     let equivocating = marks(matches, "equivocate", nodes)?;
     let flooding = marks(matches, "flood", nodes)?;
@@ -314,6 +368,7 @@ fn plan_of(alloc: Global, matches: &ArgMatches<'_>) -> Result<Plan, Unplanned> {
         need,
         sets: String::new(alloc),
         slots,
+        until,
         delay,
         drop,
         duplicate,
@@ -328,7 +383,7 @@ fn plan_of(alloc: Global, matches: &ArgMatches<'_>) -> Result<Plan, Unplanned> {
 }
 
 /// What the options ask of a simulation.
-pub fn sim_by<'a>(alloc: Global, matches: &ArgMatches<'a>) -> Result<SimAsked<'a>, Unplanned> {
+pub fn sim_by<'a>(alloc: Global, matches: &ArgMatches<'a>) -> Result<SimAsked<'a>, Unplanned<'a>> {
     let plan = plan_of(alloc, matches)?;
     Ok(SimAsked {
         plan,

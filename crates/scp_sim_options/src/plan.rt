@@ -42,11 +42,13 @@ pub struct Plan {
     pub sets: String,
     /// The number of slots to close.
     pub slots: u64,
+    /// The time at which the run ends, even if not all slots are closed.
+    pub until: u64,
     /// The time that a message travels.
     pub delay: Span,
-    /// Of a hundred messages, how many are lost, and how many come twice.
-    pub drop: u8,
-    pub duplicate: u8,
+    /// Of a thousand messages, how many are lost, and how many come twice.
+    pub drop: u16,
+    pub duplicate: u16,
     /// Whether a message may overtake another on its link.
     pub reorder: bool,
     pub partitions: Vec<Partition>,

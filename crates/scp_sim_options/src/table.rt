@@ -75,10 +75,11 @@ impl Word {
     };
 }
 
-/// A command: its name, what it does, and the words that it takes.
+/// A command: its name, what it does, the words that it takes, and the end of its help, which begins with an example.
 #[derive(Clone, Copy)]
 pub struct Entry {
     pub name: &'static str,
     pub about: &'static str,
     pub words: &'static [Word],
+    pub end: &'static str,
 }

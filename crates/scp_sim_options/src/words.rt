@@ -24,13 +24,24 @@ pub(crate) fn node_of(word: &str) -> Option<u8> {
     }
 }
 
-/// A percentage, as `5%`.
-pub(crate) fn percent_of(word: &str) -> Option<u8> {
-    let number = number_of(word.strip_suffix("%")?)?;
-    if number <= 100 {
-        Some(number as u8)
-    } else {
-        None
+/// A number of hundredths and of thousandths besides, as so many thousandths, if these are at most 1,000.
+fn in_thousandths(hundredths: u64, more: u64) -> Option<u16> {
+    if hundredths > 100 || more > 9 {
+        return None;
+    }
+    let all = hundredths * 10 + more;
+    if all <= 1_000 { Some(all as u16) } else { None }
+}
+
+/// A percentage, as `5%` or `5.5%`, in thousandths.
+pub(crate) fn thousandths_of(word: &str) -> Option<u16> {
+    let number = word.strip_suffix("%")?;
+    match number.split_once(".") {
+        None => in_thousandths(number_of(number)?, 0),
+        Some((whole, part)) if part.len() == 1 => {
+            in_thousandths(number_of(whole)?, number_of(part)?)
+        }
+        Some(_) => None,
     }
 }
 

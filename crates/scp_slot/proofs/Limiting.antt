@@ -6,32 +6,32 @@ use Rattle.std.specs.BTreeMap.{is_at}
 use Rattle.std.specs.List.Sorted.{IsStrictlySortedBy}
 use Rattle.std.proofs.lemmas.Bool.{cases_lt}
 use Rattle.std.proofs.lemmas.List.Elements.{All-weaker, All-contains_itself}
-use Rattle.scp_types.specs.declared.ballot.Ballot.{Ballot}
-use Rattle.scp_types.specs.declared.names.NodeId.{NodeId}
-use Rattle.scp_quorum.specs.NodeSet.{node_cmp}
-use Rattle.scp_quorum.specs.QuorumTree.{QuorumTree}
-use Rattle.scp_quorum.specs.SharedSet.{SharedSet}
-use Rattle.scp_envelope.specs.declared.statement.Pledges.{Pledges}
-use Rattle.scp_envelope.specs.declared.statement.Pledges.TheVariants.{Prepare, Confirm, Externalize, Nominate}
-use Rattle.scp_envelope.specs.declared.statement.Envelope.{Envelope as Enveloped}
-use Rattle.scp_envelope.specs.Ballots.{value_cmp}
-use Rattle.scp_envelope.specs.Newer.{ContainsAll, ArePledgesNewer}
-use Rattle.scp_envelope.specs.Sane.{IsSane, IsSaneNominate}
-use Rattle.scp_envelope.proofs.Longer.{larger_is_longer}
-use Rattle.scp_envelope.specs.Short.{IsShortValue, SaysOnly, HasShortLists, IsShort}
-use Rattle.scp_driver.specs.declared.driver.Level.{Level}
-use Rattle.scp_driver.specs.declared.driver.Level.TheVariants.{Invalid, FullyValidated}
-use Rattle.scp_driver.specs.Driver.{IsFull}
-use Rattle.scp_vote.specs.declared.claim.StatementKind.{StatementKind}
-use Rattle.scp_vote.specs.declared.claim.StatementKind.TheVariants.{Nomination as Nominating, Balloting}
-use Rattle.scp_vote.specs.Board.{Seen, kind_of_pledges}
+use Rattle.scp_nominate.specs.scp_types.specs.declared.ballot.Ballot.{Ballot}
+use Rattle.scp_nominate.specs.scp_types.specs.declared.names.NodeId.{NodeId}
+use Rattle.scp_nominate.specs.scp_quorum.specs.NodeSet.{node_cmp}
+use Rattle.scp_nominate.specs.scp_quorum.specs.QuorumTree.{QuorumTree}
+use Rattle.scp_nominate.specs.scp_quorum.specs.SharedSet.{SharedSet}
+use Rattle.scp_nominate.specs.scp_envelope.specs.declared.statement.Pledges.{Pledges}
+use Rattle.scp_nominate.specs.scp_envelope.specs.declared.statement.Pledges.TheVariants.{Prepare, Confirm, Externalize, Nominate}
+use Rattle.scp_nominate.specs.scp_envelope.specs.declared.statement.Envelope.{Envelope as Enveloped}
+use Rattle.scp_nominate.specs.scp_envelope.specs.Ballots.{value_cmp}
+use Rattle.scp_nominate.specs.scp_envelope.specs.Newer.{ContainsAll, ArePledgesNewer}
+use Rattle.scp_nominate.specs.scp_envelope.specs.Sane.{IsSane, IsSaneNominate}
+use Rattle.scp_nominate.specs.scp_envelope.proofs.Longer.{larger_is_longer}
+use Rattle.scp_nominate.specs.scp_envelope.specs.Short.{IsShortValue, SaysOnly, HasShortLists, IsShort}
+use Rattle.scp_nominate.specs.scp_driver.specs.declared.driver.Level.{Level}
+use Rattle.scp_nominate.specs.scp_driver.specs.declared.driver.Level.TheVariants.{Invalid, FullyValidated}
+use Rattle.scp_nominate.specs.scp_driver.specs.Driver.{IsFull}
+use Rattle.scp_nominate.specs.scp_vote.specs.declared.claim.StatementKind.{StatementKind}
+use Rattle.scp_nominate.specs.scp_vote.specs.declared.claim.StatementKind.TheVariants.{Nomination as Nominating, Balloting}
+use Rattle.scp_nominate.specs.scp_vote.specs.Board.{Seen, kind_of_pledges}
 use Rattle.scp_nominate.specs.declared.nominator.Nominator.{Nominator}
 use Rattle.scp_nominate.specs.Owed.{OwnLists, Suggests, MayVote, VotesFor}
 use Rattle.scp_nominate.specs.Nomination as nominate
-use Rattle.scp_ballot_rules.specs.declared.state.State.{State}
-use Rattle.scp_ballot_rules.specs.Values.{BoardSaysOnly, StateSaysOnly}
-use Rattle.scp_ballot_rules.proofs.Options.{none_some, for_some}
-use Rattle.scp_ballot_rules.proofs.Saying.{compose_has, time_has, input_has}
+use Rattle.scp_ballot.specs.scp_ballot_rules.specs.declared.state.State.{State}
+use Rattle.scp_ballot.specs.scp_ballot_rules.specs.Values.{BoardSaysOnly, StateSaysOnly}
+use Rattle.scp_ballot.specs.scp_ballot_rules.proofs.Options.{none_some, for_some}
+use Rattle.scp_ballot.specs.scp_ballot_rules.proofs.Saying.{compose_has, time_has, input_has}
 use Rattle.scp_ballot.specs.declared.balloted.Balloted.{Balloted}
 use Rattle.scp_ballot.specs.declared.balloted.Certified.{Certified}
 use Rattle.scp_ballot.specs.Balloting as ballot

@@ -5,17 +5,17 @@ use Rattle.std.specs.Map.{lookup}
 use Rattle.std.proofs.lemmas.Bool.{cases_order}
 use Rattle.std.specs.BTreeMap.{is_at}
 use Rattle.std.proofs.lemmas.Bool.Decides.{nat_tests}
-use Rattle.scp_types.specs.declared.names.NodeId.{NodeId}
-use Rattle.scp_quorum.specs.NodeSet.{node_cmp, is_in}
-use Rattle.scp_quorum.specs.QuorumTree.{QuorumTree}
-use Rattle.scp_quorum.specs.Satisfies.{Satisfies}
-use Rattle.scp_quorum.specs.Quorum.{IsQuorum, IsGreatestQuorum, HasNoQuorum}
-use Rattle.scp_envelope.specs.declared.statement.Pledges.{Pledges}
-use Rattle.scp_vote.specs.declared.statements.Entry.{Entry}
-use Rattle.scp_vote.specs.Board.{Seen, HasQuorumOf, AllHave}
-use Rattle.scp_vote.proofs.Chain.{same_at, at_itself}
-use Rattle.scp_ballot_rules.specs.Owed.{counter_in}
-use Rattle.scp_ballot_rules.proofs.Gathering.{Entries}
+use Rattle.scp_nominate.specs.scp_types.specs.declared.names.NodeId.{NodeId}
+use Rattle.scp_nominate.specs.scp_quorum.specs.NodeSet.{node_cmp, is_in}
+use Rattle.scp_nominate.specs.scp_quorum.specs.QuorumTree.{QuorumTree}
+use Rattle.scp_nominate.specs.scp_quorum.specs.Satisfies.{Satisfies}
+use Rattle.scp_nominate.specs.scp_quorum.specs.Quorum.{IsQuorum, IsGreatestQuorum, HasNoQuorum}
+use Rattle.scp_nominate.specs.scp_envelope.specs.declared.statement.Pledges.{Pledges}
+use Rattle.scp_nominate.specs.scp_vote.specs.declared.statements.Entry.{Entry}
+use Rattle.scp_nominate.specs.scp_vote.specs.Board.{Seen, HasQuorumOf, AllHave}
+use Rattle.scp_nominate.specs.scp_vote.proofs.Chain.{same_at, at_itself}
+use Rattle.scp_ballot.specs.scp_ballot_rules.specs.Owed.{counter_in}
+use Rattle.scp_ballot.specs.scp_ballot_rules.proofs.Gathering.{Entries}
 use Rattle.scp_slot.specs.Timers.{IsFrom, HasQuorumFrom}
 use Rattle.scp_slot.specs.inside.Sets.{set_from, counted_from, AreSetsFrom}
 

@@ -3,20 +3,20 @@ use Rattle.std.proofs.Common.{◌≡◌, ◌≢◌, ◌↔◌, ◌⊎◌, ℕ, B
 use Rattle.std.specs.Prelude.{IsSome, IsSomeAnd}
 use Rattle.std.specs.Option.{option_map, ForSome}
 use Rattle.std.specs.BTreeMap.{is_at}
-use Rattle.scp_types.specs.declared.names.NodeId.{NodeId}
-use Rattle.scp_quorum.specs.NodeSet.{node_cmp}
-use Rattle.scp_quorum.specs.QuorumTree.{QuorumTree}
-use Rattle.scp_driver.specs.declared.driver.Level.{Level}
-use Rattle.scp_quorum.specs.SharedSet.{SharedSet}
-use Rattle.scp_envelope.specs.declared.statement.Pledges.{Pledges}
-use Rattle.scp_envelope.specs.declared.statement.Statement.{Statement}
-use Rattle.scp_envelope.specs.declared.statement.Envelope.{Envelope as Enveloped}
-use Rattle.scp_vote.specs.declared.claim.StatementKind.{StatementKind}
-use Rattle.scp_vote.specs.declared.claim.StatementKind.TheVariants.{Nomination as Nominating, Balloting}
-use Rattle.scp_vote.specs.Board.{Seen, kind_of_pledges, counted_of_other}
-use Rattle.scp_types.specs.declared.names.Hash.{Hash}
-use Rattle.scp_types.specs.declared.ballot.Ballot.{Ballot}
-use Rattle.scp_ballot_rules.specs.Owed.{OwesNothing, IsSettled, own_or_nothing}
+use Rattle.scp_nominate.specs.scp_types.specs.declared.names.NodeId.{NodeId}
+use Rattle.scp_nominate.specs.scp_quorum.specs.NodeSet.{node_cmp}
+use Rattle.scp_nominate.specs.scp_quorum.specs.QuorumTree.{QuorumTree}
+use Rattle.scp_nominate.specs.scp_driver.specs.declared.driver.Level.{Level}
+use Rattle.scp_nominate.specs.scp_quorum.specs.SharedSet.{SharedSet}
+use Rattle.scp_nominate.specs.scp_envelope.specs.declared.statement.Pledges.{Pledges}
+use Rattle.scp_nominate.specs.scp_envelope.specs.declared.statement.Statement.{Statement}
+use Rattle.scp_nominate.specs.scp_envelope.specs.declared.statement.Envelope.{Envelope as Enveloped}
+use Rattle.scp_nominate.specs.scp_vote.specs.declared.claim.StatementKind.{StatementKind}
+use Rattle.scp_nominate.specs.scp_vote.specs.declared.claim.StatementKind.TheVariants.{Nomination as Nominating, Balloting}
+use Rattle.scp_nominate.specs.scp_vote.specs.Board.{Seen, kind_of_pledges, counted_of_other}
+use Rattle.scp_nominate.specs.scp_types.specs.declared.names.Hash.{Hash}
+use Rattle.scp_nominate.specs.scp_types.specs.declared.ballot.Ballot.{Ballot}
+use Rattle.scp_ballot.specs.scp_ballot_rules.specs.Owed.{OwesNothing, IsSettled, own_or_nothing}
 use Rattle.scp_ballot.specs.declared.balloted.Certified.{Certified}
 use Rattle.scp_nominate.specs.Nomination as nominate
 use Rattle.scp_nominate.specs.Owed.{OwnLists}

@@ -1,11 +1,11 @@
 -- How an envelope is judged by its values, and compared with the newest one.
 use Rattle.std.specs.Prelude.{◌≡◌, ◌⊎◌, ℕ, List, Option, IsSomeAnd}
-use Rattle.scp_envelope.specs.declared.statement.Pledges.{Pledges}
-use Rattle.scp_envelope.specs.declared.statement.Pledges.TheVariants.{Prepare, Confirm, Externalize, Nominate}
-use Rattle.scp_envelope.specs.declared.statement.Statement.{Statement}
-use Rattle.scp_envelope.specs.Newer.{IsNewer}
-use Rattle.scp_driver.specs.declared.driver.Level.{Level}
-use Rattle.scp_driver.specs.declared.driver.Level.TheVariants.{Invalid}
+use Rattle.scp_nominate.specs.scp_envelope.specs.declared.statement.Pledges.{Pledges}
+use Rattle.scp_nominate.specs.scp_envelope.specs.declared.statement.Pledges.TheVariants.{Prepare, Confirm, Externalize, Nominate}
+use Rattle.scp_nominate.specs.scp_envelope.specs.declared.statement.Statement.{Statement}
+use Rattle.scp_nominate.specs.scp_envelope.specs.Newer.{IsNewer}
+use Rattle.scp_nominate.specs.scp_driver.specs.declared.driver.Level.{Level}
+use Rattle.scp_nominate.specs.scp_driver.specs.declared.driver.Level.TheVariants.{Invalid}
 use Rattle.scp_slot.specs.declared.newest.Heard.{Heard}
 
 -- the driver calls the value invalid

@@ -1,3 +1,12 @@
+pub use Rattle.scp_nominate.specs.scp_types
+pub use Rattle.scp_nominate.specs.scp_xdr
+pub use Rattle.scp_nominate.specs.scp_quorum
+pub use Rattle.scp_nominate.specs.scp_envelope
+pub use Rattle.scp_nominate.specs.scp_kv
+pub use Rattle.scp_nominate.specs.scp_vote
+pub use Rattle.scp_nominate.specs.scp_driver
+pub use Rattle.scp_nominate
+pub use Rattle.scp_ballot.specs.scp_ballot_rules
 pub use Rattle.scp_ballot
 pub mod Newest
 pub mod Judged

@@ -1,18 +1,18 @@
 -- The machine of one slot as its contracts see it.
 use Rattle.std.specs.Prelude.{◌≡◌, ◌≢◌, ◌↔◌, ℕ, List, [], Bool, true, false, Option, None, Contains}
 use Rattle.std.specs.Option.{option_map, ForSome}
-use Rattle.scp_types.specs.declared.names.NodeId.{NodeId}
-use Rattle.scp_quorum.specs.QuorumTree.{QuorumTree}
-use Rattle.scp_envelope.specs.Short.{IsShortValue}
-use Rattle.scp_driver.specs.declared.driver.Level.{Level}
-use Rattle.scp_vote.specs.declared.claim.StatementKind.{StatementKind}
-use Rattle.scp_vote.specs.declared.claim.StatementKind.TheVariants.{Nomination as Nominating, Balloting}
-use Rattle.scp_vote.specs.Board.{Seen, counted_of_other}
+use Rattle.scp_nominate.specs.scp_types.specs.declared.names.NodeId.{NodeId}
+use Rattle.scp_nominate.specs.scp_quorum.specs.QuorumTree.{QuorumTree}
+use Rattle.scp_nominate.specs.scp_envelope.specs.Short.{IsShortValue}
+use Rattle.scp_nominate.specs.scp_driver.specs.declared.driver.Level.{Level}
+use Rattle.scp_nominate.specs.scp_vote.specs.declared.claim.StatementKind.{StatementKind}
+use Rattle.scp_nominate.specs.scp_vote.specs.declared.claim.StatementKind.TheVariants.{Nomination as Nominating, Balloting}
+use Rattle.scp_nominate.specs.scp_vote.specs.Board.{Seen, counted_of_other}
 use Rattle.scp_nominate.specs.declared.nominator.Nominator.{Nominator}
 use Rattle.scp_nominate.specs.Nomination as nominate
 use Rattle.scp_nominate.specs.Nomination.{Nomination, nomination}
-use Rattle.scp_ballot_rules.specs.Owed.{OwesNothing}
-use Rattle.scp_ballot_rules.specs.Values.{BoardSaysOnly, StateSaysOnly}
+use Rattle.scp_ballot.specs.scp_ballot_rules.specs.Owed.{OwesNothing}
+use Rattle.scp_ballot.specs.scp_ballot_rules.specs.Values.{BoardSaysOnly, StateSaysOnly}
 use Rattle.scp_ballot.specs.View.{BalloterView}
 use Rattle.scp_ballot.specs.Balloting as ballot
 use Rattle.scp_ballot.specs.Balloting.{Ballots, ballots, IsDecided, HasBallot}

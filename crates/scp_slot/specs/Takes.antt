@@ -1,15 +1,15 @@
 -- What one input does to the machine of a slot.
 use Rattle.std.specs.Prelude.{◌≡◌, ◌≢◌, ◌≤◌, ◌+◌, ◌⊎◌, ◌↔◌, ℕ, List, length, Bool, true, false, Option, Some, None, IsSome, is_some}
 use Rattle.std.specs.Option.{ForSome}
-use Rattle.scp_quorum.specs.SharedSet.{SharedSet}
-use Rattle.scp_envelope.specs.declared.statement.Statement.{Statement}
-use Rattle.scp_envelope.specs.declared.statement.Envelope.{Envelope as Enveloped}
-use Rattle.scp_envelope.specs.Sane.{IsSane}
-use Rattle.scp_driver.specs.declared.driver.Level.{Level}
-use Rattle.scp_driver.specs.declared.driver.Level.TheVariants.{FullyValidated}
-use Rattle.scp_vote.specs.declared.claim.StatementKind.{StatementKind}
-use Rattle.scp_vote.specs.declared.claim.StatementKind.TheVariants.{Nomination as Nominating, Balloting}
-use Rattle.scp_vote.specs.Board.{kind_of_pledges, counted_of_other}
+use Rattle.scp_nominate.specs.scp_quorum.specs.SharedSet.{SharedSet}
+use Rattle.scp_nominate.specs.scp_envelope.specs.declared.statement.Statement.{Statement}
+use Rattle.scp_nominate.specs.scp_envelope.specs.declared.statement.Envelope.{Envelope as Enveloped}
+use Rattle.scp_nominate.specs.scp_envelope.specs.Sane.{IsSane}
+use Rattle.scp_nominate.specs.scp_driver.specs.declared.driver.Level.{Level}
+use Rattle.scp_nominate.specs.scp_driver.specs.declared.driver.Level.TheVariants.{FullyValidated}
+use Rattle.scp_nominate.specs.scp_vote.specs.declared.claim.StatementKind.{StatementKind}
+use Rattle.scp_nominate.specs.scp_vote.specs.declared.claim.StatementKind.TheVariants.{Nomination as Nominating, Balloting}
+use Rattle.scp_nominate.specs.scp_vote.specs.Board.{kind_of_pledges, counted_of_other}
 use Rattle.scp_nominate.specs.declared.nominated.Nominated.{Nominated}
 use Rattle.scp_nominate.specs.Nomination as nominate
 use Rattle.scp_nominate.specs.Nomination.{Nomination}

@@ -1,9 +1,9 @@
 -- Which timers of a slot run (the SCP draft, in this project's profile).
 use Rattle.std.specs.Prelude.{◌≡◌, ◌<◌, ◌≤◌, ◌⊎◌, ℕ, List, [], ◌∷◌, ◌++◌, length, Option, Some, None}
-use Rattle.scp_types.specs.declared.names.Slot.{Slot}
-use Rattle.scp_envelope.specs.declared.statement.Pledges.{Pledges}
-use Rattle.scp_vote.specs.Board.{Seen, HasQuorumOf}
-use Rattle.scp_ballot_rules.specs.Owed.{counter_in}
+use Rattle.scp_nominate.specs.scp_types.specs.declared.names.Slot.{Slot}
+use Rattle.scp_nominate.specs.scp_envelope.specs.declared.statement.Pledges.{Pledges}
+use Rattle.scp_nominate.specs.scp_vote.specs.Board.{Seen, HasQuorumOf}
+use Rattle.scp_ballot.specs.scp_ballot_rules.specs.Owed.{counter_in}
 use Rattle.scp_slot.specs.Slot.{SlotView}
 use Rattle.scp_slot.specs.declared.timers.Timer.{Timer}
 use Rattle.scp_slot.specs.declared.timers.Timer.TheVariants.{Round, Ballot}

@@ -3,9 +3,9 @@ ghost use Rattle.std.specs.Prelude.{◌≡◌, ◌⊎◌, ◌↔◌, IsTrue, IsS
 ghost use Rattle.std.specs.Option.{ForSome};
 ghost use Rattle.scp_slot.specs.Judged.{IsInvalid, HasInvalid};
 
-use scp_driver::{Driver, Level};
-use scp_envelope::{Pledges, Prepare};
-use scp_types::{Ballot, Slot, Value};
+use scp_nominate::below::driver::{Driver, Level};
+use scp_nominate::below::envelope::{Pledges, Prepare};
+use scp_nominate::below::types::{Ballot, Slot, Value};
 
 /// Whether the driver calls the value invalid.
 fn is_invalid<D: Driver>(driver: &D, slot: Slot, value: &Value) -> bool

@@ -2,6 +2,7 @@
 //! decision with its certificate.
 #![tactic(auto)]
 
+pub mod below;
 mod judging;
 mod machine;
 mod newest;

@@ -4,10 +4,10 @@ ghost use Rattle.std.specs.Prelude.{◌≡◌, ◌⊎◌, true, false, IfOk, IfE
 use crate::output::{SlotInput, SlotOutput};
 use crate::state::State;
 use scp_ballot::Balloter;
-use scp_driver::Driver;
 use scp_nominate::Nominator;
-use scp_quorum::SaneSet;
-use scp_types::{Fault, NodeId, Slot};
+use scp_nominate::below::driver::Driver;
+use scp_nominate::below::quorum::SaneSet;
+use scp_nominate::below::types::{Fault, NodeId, Slot};
 use std::alloc::Global;
 use std::sync::Arc;
 

@@ -1,15 +1,15 @@
 //! The newest fresh statement of each other node and kind, with its quorum set.
 ghost use Rattle.std.specs.Prelude.{◌≡◌, Some, None, OnOk, IsOkUnless, option_copied};
 ghost use Rattle.std.specs.BTreeMap as node_map;
-ghost use Rattle.scp_quorum.specs.NodeSet.{node_cmp};
-ghost use Rattle.scp_types.specs.declared.names.NodeId.{NodeId};
-ghost use Rattle.scp_vote.specs.Board.{kind_of_pledges};
-ghost use Rattle.scp_vote.specs.declared.claim.StatementKind.{StatementKind};
+ghost use Rattle.scp_nominate.specs.scp_quorum.specs.NodeSet.{node_cmp};
+ghost use Rattle.scp_nominate.specs.scp_types.specs.declared.names.NodeId.{NodeId};
+ghost use Rattle.scp_nominate.specs.scp_vote.specs.Board.{kind_of_pledges};
+ghost use Rattle.scp_nominate.specs.scp_vote.specs.declared.claim.StatementKind.{StatementKind};
 
-use scp_envelope::{SharedStatement, Statement};
-use scp_quorum::SaneSet;
-use scp_types::{Fault, NodeId};
-use scp_vote::{StatementKind, kind_of_pledges};
+use scp_nominate::below::envelope::{SharedStatement, Statement};
+use scp_nominate::below::quorum::SaneSet;
+use scp_nominate::below::types::{Fault, NodeId};
+use scp_nominate::below::vote::{StatementKind, kind_of_pledges};
 use std::alloc::Global;
 use std::collections::BTreeMap;
 use std::sync::Arc;

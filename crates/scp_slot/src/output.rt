@@ -3,9 +3,9 @@ ghost use Rattle.std.specs.Prelude.{◌≡◌};
 ghost use Rattle.scp_slot.specs.Takes.{quiet};
 
 use scp_ballot::Certified;
-use scp_envelope::SharedEnvelope;
-use scp_quorum::SaneSet;
-use scp_types::Value;
+use scp_nominate::below::envelope::SharedEnvelope;
+use scp_nominate::below::quorum::SaneSet;
+use scp_nominate::below::types::Value;
 use std::sync::Arc;
 
 /// What the machine of a slot takes.

@@ -1,16 +1,16 @@
 //! Whether a quorum has reached a counter.
 ghost use Rattle.std.specs.Prelude.{◌≡◌, ◌≤◌, ◌↔◌, IsTrue, IfOk, IsOkUnless};
-ghost use Rattle.scp_quorum.specs.Quorum.{set_of};
-ghost use Rattle.scp_vote.specs.Seen.{seen};
-ghost use Rattle.scp_vote.specs.declared.claim.StatementKind.TheVariants.{Balloting};
-ghost use Rattle.scp_ballot_rules.specs.Owed.{counter_in};
+ghost use Rattle.scp_nominate.specs.scp_quorum.specs.Quorum.{set_of};
+ghost use Rattle.scp_nominate.specs.scp_vote.specs.Seen.{seen};
+ghost use Rattle.scp_nominate.specs.scp_vote.specs.declared.claim.StatementKind.TheVariants.{Balloting};
+ghost use Rattle.scp_ballot.specs.scp_ballot_rules.specs.Owed.{counter_in};
 ghost use Rattle.scp_slot.specs.Timers.{HasQuorumFrom};
 ghost use Rattle.scp_slot.specs.inside.Sets.{AreSetsFrom};
 
-use scp_ballot_rules::counter_of_pledges;
-use scp_quorum::{SaneSet, greatest_quorum};
-use scp_types::{Fault, NodeId};
-use scp_vote::{Board, Entry, StatementKind};
+use scp_ballot::below::ballot_rules::counter_of_pledges;
+use scp_nominate::below::quorum::{SaneSet, greatest_quorum};
+use scp_nominate::below::types::{Fault, NodeId};
+use scp_nominate::below::vote::{Board, Entry, StatementKind};
 use std::alloc::{AllocError, Global};
 use std::collections::BTreeMap;
 use std::sync::Arc;

@@ -1,10 +1,10 @@
 //! The parts of a slot's machine, and what each input does to them.
 ghost use Rattle.std.specs.Prelude.{◌≡◌, ◌≢◌, ◌⊎◌, ◌↔◌, ◌≤◌, None, true, false, length, is_some, IsTrue, IsSome, IfOk, IfErr, OnOk, IsOkUnless};
 ghost use Rattle.std.specs.Option.{ForSome, option_map};
-ghost use Rattle.scp_driver.specs.Driver.{IsFull};
-ghost use Rattle.scp_envelope.specs.Sane.{IsSane};
-ghost use Rattle.scp_envelope.specs.declared.statement.Statement.{Statement};
-ghost use Rattle.scp_vote.specs.Board.{kind_of_pledges};
+ghost use Rattle.scp_nominate.specs.scp_driver.specs.Driver.{IsFull};
+ghost use Rattle.scp_nominate.specs.scp_envelope.specs.Sane.{IsSane};
+ghost use Rattle.scp_nominate.specs.scp_envelope.specs.declared.statement.Statement.{Statement};
+ghost use Rattle.scp_nominate.specs.scp_vote.specs.Board.{kind_of_pledges};
 ghost use Rattle.scp_nominate.specs.Nomination as nominate;
 ghost use Rattle.scp_ballot.specs.Balloting as ballot;
 ghost use Rattle.scp_ballot.specs.Outcome.{BeginsBlank};
@@ -12,19 +12,19 @@ ghost use Rattle.scp_slot.specs.Judged.{HasInvalid, IsBehind};
 ghost use Rattle.scp_slot.specs.inside.Judged.{IsJudged};
 ghost use Rattle.scp_slot.specs.Newest.{newest_of};
 ghost use Rattle.scp_slot.specs.Takes.{quiet, Cases};
-ghost use Rattle.scp_vote.specs.declared.claim.StatementKind.TheVariants.{Nomination, Balloting};
+ghost use Rattle.scp_nominate.specs.scp_vote.specs.declared.claim.StatementKind.TheVariants.{Nomination, Balloting};
 ghost use Rattle.scp_slot.specs.declared.output.SlotInput.TheVariants.{Propose, Round, Timer, Envelope as Enveloped};
 
 use crate::judging::has_invalid;
 use crate::newest::{Heard, Newest};
 use crate::output::{Emitted, SlotInput, SlotOutput, Verdict};
 use scp_ballot::{Balloted, Balloter};
-use scp_driver::{Driver, Level};
-use scp_envelope::{Pledges, SharedEnvelope, Statement, newer};
+use scp_nominate::below::driver::{Driver, Level};
+use scp_nominate::below::envelope::{Pledges, SharedEnvelope, Statement, newer};
+use scp_nominate::below::quorum::SaneSet;
+use scp_nominate::below::types::{Fault, NodeId, Slot, Value};
+use scp_nominate::below::vote::{StatementKind, kind_of_pledges};
 use scp_nominate::{Nominated, Nominator};
-use scp_quorum::SaneSet;
-use scp_types::{Fault, NodeId, Slot, Value};
-use scp_vote::{StatementKind, kind_of_pledges};
 use std::alloc::Global;
 use std::sync::Arc;
 

@@ -1,16 +1,16 @@
 //! The timers of one slot that should run.
 ghost use Rattle.std.specs.Prelude.{◌≡◌, OnOk, IsOkUnless};
-ghost use Rattle.scp_vote.specs.Seen.{seen};
-ghost use Rattle.scp_vote.specs.declared.claim.StatementKind.TheVariants.{Balloting};
+ghost use Rattle.scp_nominate.specs.scp_vote.specs.Seen.{seen};
+ghost use Rattle.scp_nominate.specs.scp_vote.specs.declared.claim.StatementKind.TheVariants.{Balloting};
 ghost use Rattle.scp_slot.specs.Slot.{slot_view};
 ghost use Rattle.scp_slot.specs.Timers.{own_counter, AddsRound, AddsBallot, AddsTimers};
 
 use crate::machine::SlotMachine;
 use crate::quorum::has_quorum_at;
-use scp_ballot_rules::counter_of_pledges;
-use scp_driver::Driver;
-use scp_types::{Fault, Slot};
-use scp_vote::{Board, StatementKind};
+use scp_ballot::below::ballot_rules::counter_of_pledges;
+use scp_nominate::below::driver::Driver;
+use scp_nominate::below::types::{Fault, Slot};
+use scp_nominate::below::vote::{Board, StatementKind};
 use std::alloc::Global;
 
 /// A timer that should run: that of a slot's nomination in this round, or of its ballot of this counter.

@@ -6,11 +6,11 @@ use Rattle.std.specs.BTreeMap.{BTreeMap, is_at}
 use Rattle.std.proofs.lemmas.Bool.{cases_lt}
 use Rattle.std.proofs.lemmas.List.{take_more, take_all}
 use Rattle.std.proofs.lemmas.List.Elements.{Contains-append_left, Contains-push, Contains-push_cases}
-use Rattle.scp_types.specs.declared.ballot.Ballot.{Ballot}
-use Rattle.scp_envelope.specs.Ballots.{value_cmp}
+use Rattle.scp_kv.specs.scp_types.specs.declared.ballot.Ballot.{Ballot}
+use Rattle.scp_ballot_rules.specs.scp_envelope.specs.Ballots.{value_cmp}
 use Rattle.scp_ballot_rules.specs.Greatest.{ballot_at}
 use Rattle.scp_ballot_rules.specs.Owed.{IsCandidate, IsBoundary}
-use Rattle.scp_vote.specs.Board.{Seen}
+use Rattle.scp_ballot_rules.specs.scp_vote.specs.Board.{Seen}
 use Rattle.scp_stand_needs.specs.Needs.{IsTopBallot, IsTopBoundary}
 use Rattle.scp_stand_needs.specs.inside.Found.{IsGreatest, Raises}
 use Rattle.scp_stand_needs.proofs.Visiting.{decided}

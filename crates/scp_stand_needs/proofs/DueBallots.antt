@@ -7,22 +7,22 @@ use Rattle.std.proofs.lemmas.Option.{same_Some}
 use Rattle.std.proofs.lemmas.Map.Lookups.{exact_bytes}
 use Rattle.std.proofs.lemmas.Map.Views.{btree_map_contains_key_iff}
 use Rattle.std.proofs.lemmas.List.Elements.{Contains-push}
-use Rattle.scp_types.specs.declared.names.NodeId.{NodeId}
-use Rattle.scp_types.specs.declared.ballot.Ballot.{Ballot}
-use Rattle.scp_envelope.specs.declared.statement.Pledges.{Pledges}
-use Rattle.scp_envelope.specs.declared.statement.Pledges.TheVariants.{Confirm as Confirming, Externalize as Externalizing, Nominate as Nominating}
-use Rattle.scp_envelope.specs.declared.statement.Confirm.{Confirm}
-use Rattle.scp_envelope.specs.declared.statement.Externalize.{Externalize}
-use Rattle.scp_envelope.specs.declared.statement.Nominate.{Nominate}
-use Rattle.scp_envelope.specs.Ballots.{value_cmp}
+use Rattle.scp_kv.specs.scp_types.specs.declared.names.NodeId.{NodeId}
+use Rattle.scp_kv.specs.scp_types.specs.declared.ballot.Ballot.{Ballot}
+use Rattle.scp_ballot_rules.specs.scp_envelope.specs.declared.statement.Pledges.{Pledges}
+use Rattle.scp_ballot_rules.specs.scp_envelope.specs.declared.statement.Pledges.TheVariants.{Confirm as Confirming, Externalize as Externalizing, Nominate as Nominating}
+use Rattle.scp_ballot_rules.specs.scp_envelope.specs.declared.statement.Confirm.{Confirm}
+use Rattle.scp_ballot_rules.specs.scp_envelope.specs.declared.statement.Externalize.{Externalize}
+use Rattle.scp_ballot_rules.specs.scp_envelope.specs.declared.statement.Nominate.{Nominate}
+use Rattle.scp_ballot_rules.specs.scp_envelope.specs.Ballots.{value_cmp}
 use Rattle.scp_ballot_rules.specs.Greatest.{ballot_at}
 use Rattle.scp_ballot_rules.specs.Owed.{IsCandidate, IsBoundary}
-use Rattle.scp_vote.specs.declared.board.Board.{Board}
-use Rattle.scp_vote.specs.declared.claim.StatementKind.TheVariants.{Balloting}
-use Rattle.scp_vote.specs.declared.claim.Claim.{Claim}
-use Rattle.scp_vote.specs.declared.claim.Claim.TheVariants.{Prepared, Committed}
-use Rattle.scp_vote.specs.Board.{Seen, Accepted, Confirmed}
-use Rattle.scp_vote.specs.Seen.{seen}
+use Rattle.scp_ballot_rules.specs.scp_vote.specs.declared.board.Board.{Board}
+use Rattle.scp_ballot_rules.specs.scp_vote.specs.declared.claim.StatementKind.TheVariants.{Balloting}
+use Rattle.scp_ballot_rules.specs.scp_vote.specs.declared.claim.Claim.{Claim}
+use Rattle.scp_ballot_rules.specs.scp_vote.specs.declared.claim.Claim.TheVariants.{Prepared, Committed}
+use Rattle.scp_ballot_rules.specs.scp_vote.specs.Board.{Seen, Accepted, Confirmed}
+use Rattle.scp_ballot_rules.specs.scp_vote.specs.Seen.{seen}
 use Rattle.scp_stand_needs.specs.declared.steps.Step.{Step}
 use Rattle.scp_stand_needs.specs.declared.steps.Step.TheVariants.{AcceptNominated, ConfirmNominated, AcceptPrepared, ConfirmPrepared, AcceptCommit, ConfirmCommit}
 use Rattle.scp_stand_needs.specs.declared.steps.Need.{Need}

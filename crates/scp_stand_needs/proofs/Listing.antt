@@ -6,10 +6,10 @@ use Rattle.std.specs.Option.{option_to_list}
 use Rattle.std.specs.declared.cmp.Ordering.TheVariants.{Less}
 use Rattle.std.proofs.lemmas.List.{append-nil}
 use Rattle.std.proofs.lemmas.List.Elements.{All-nil, All-push, All-contains, All-from_recursion, Contains-append_left, Contains-append_right, Contains-push, Contains-push_cases}
-use Rattle.scp_types.specs.declared.names.NodeId.{NodeId}
-use Rattle.scp_envelope.specs.Ballots.{value_cmp}
-use Rattle.scp_vote.specs.declared.board.Board.{Board}
-use Rattle.scp_vote.specs.declared.claim.Claim.{Claim}
+use Rattle.scp_kv.specs.scp_types.specs.declared.names.NodeId.{NodeId}
+use Rattle.scp_ballot_rules.specs.scp_envelope.specs.Ballots.{value_cmp}
+use Rattle.scp_ballot_rules.specs.scp_vote.specs.declared.board.Board.{Board}
+use Rattle.scp_ballot_rules.specs.scp_vote.specs.declared.claim.Claim.{Claim}
 use Rattle.scp_stand_needs.specs.declared.steps.Step.{Step}
 use Rattle.scp_stand_needs.specs.declared.steps.Need.{Need}
 use Rattle.scp_stand_needs.specs.Needs.{IsNeed, value_of, AreNeeds}

@@ -4,17 +4,17 @@ use Rattle.std.specs.Prelude.{if◌then◌else◌, is_some}
 use Rattle.std.specs.List.Sorted.{IsStrictlySortedBy}
 use Rattle.std.proofs.lemmas.List.{take_more, take_all}
 use Rattle.std.proofs.lemmas.List.Elements.{Contains-append_left, Contains-push, Contains-push_cases}
-use Rattle.scp_types.specs.declared.names.NodeId.{NodeId}
+use Rattle.scp_kv.specs.scp_types.specs.declared.names.NodeId.{NodeId}
 use Rattle.std.specs.BTreeMap.{is_at}
-use Rattle.scp_quorum.specs.NodeSet.{node_cmp}
-use Rattle.scp_quorum.specs.QuorumTree.{QuorumTree}
-use Rattle.scp_quorum.specs.Satisfies.{Satisfies}
-use Rattle.scp_quorum.proofs.Blocking.{Satisfies-within}
-use Rattle.scp_vote.specs.declared.claim.Claim.{Claim}
-use Rattle.scp_vote.specs.declared.claim.Support.{Support}
-use Rattle.scp_vote.specs.Claims.{Stands}
-use Rattle.scp_vote.specs.Board.{Seen, Has}
-use Rattle.scp_vote.proofs.Chain.{same_at, at_itself}
+use Rattle.scp_ballot_rules.specs.scp_quorum.specs.NodeSet.{node_cmp}
+use Rattle.scp_ballot_rules.specs.scp_quorum.specs.QuorumTree.{QuorumTree}
+use Rattle.scp_ballot_rules.specs.scp_quorum.specs.Satisfies.{Satisfies}
+use Rattle.scp_ballot_rules.specs.scp_quorum.proofs.Blocking.{Satisfies-within}
+use Rattle.scp_ballot_rules.specs.scp_vote.specs.declared.claim.Claim.{Claim}
+use Rattle.scp_ballot_rules.specs.scp_vote.specs.declared.claim.Support.{Support}
+use Rattle.scp_ballot_rules.specs.scp_vote.specs.Claims.{Stands}
+use Rattle.scp_ballot_rules.specs.scp_vote.specs.Board.{Seen, Has}
+use Rattle.scp_ballot_rules.specs.scp_vote.proofs.Chain.{same_at, at_itself}
 use Rattle.scp_stand_needs.proofs.Ascending.{none_there, sorted_push, sorted_front, below_last}
 use Rattle.scp_stand_needs.proofs.Visiting.{decided}
 use Rattle.scp_stand_needs.specs.Needs.{AreStanding, AreMembers, AreThese, IsShort}

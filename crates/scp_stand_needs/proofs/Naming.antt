@@ -8,17 +8,17 @@ use Rattle.std.specs.BTreeMap.{is_at}
 use Rattle.std.specs.BTreeSet.{BTreeSet, contains}
 use Rattle.std.proofs.lemmas.Cmp.{nat_list_cmp_total, tied_itself}
 use Rattle.std.proofs.lemmas.Map.Lookups.{exact_bytes}
-use Rattle.scp_types.specs.declared.names.NodeId.{NodeId}
-use Rattle.scp_quorum.specs.NodeSet.{node_cmp}
-use Rattle.scp_envelope.specs.Ballots.{value_cmp}
-use Rattle.scp_envelope.specs.declared.statement.Pledges.{Pledges}
+use Rattle.scp_kv.specs.scp_types.specs.declared.names.NodeId.{NodeId}
+use Rattle.scp_ballot_rules.specs.scp_quorum.specs.NodeSet.{node_cmp}
+use Rattle.scp_ballot_rules.specs.scp_envelope.specs.Ballots.{value_cmp}
+use Rattle.scp_ballot_rules.specs.scp_envelope.specs.declared.statement.Pledges.{Pledges}
 use Rattle.scp_kv.specs.Op.{ops_in}
-use Rattle.scp_vote.specs.declared.statements.Entry.{Entry}
-use Rattle.scp_vote.specs.declared.claim.Claim.TheVariants.{Nominated}
-use Rattle.scp_vote.specs.declared.claim.Support.TheVariants.{VotesOrAccepts}
-use Rattle.scp_vote.specs.Claims.{Stands}
-use Rattle.scp_vote.specs.Board.{Seen}
-use Rattle.scp_vote.proofs.Chain.{same_at}
+use Rattle.scp_ballot_rules.specs.scp_vote.specs.declared.statements.Entry.{Entry}
+use Rattle.scp_ballot_rules.specs.scp_vote.specs.declared.claim.Claim.TheVariants.{Nominated}
+use Rattle.scp_ballot_rules.specs.scp_vote.specs.declared.claim.Support.TheVariants.{VotesOrAccepts}
+use Rattle.scp_ballot_rules.specs.scp_vote.specs.Claims.{Stands}
+use Rattle.scp_ballot_rules.specs.scp_vote.specs.Board.{Seen}
+use Rattle.scp_ballot_rules.specs.scp_vote.proofs.Chain.{same_at}
 use Rattle.scp_stand_needs.specs.Needs.{IsNamed}
 use Rattle.scp_stand_needs.specs.inside.Found.{Adds}
 use Rattle.scp_stand_needs.proofs.Visiting.{Entries, decided}

@@ -1,7 +1,7 @@
 -- Going over the board: what is left of its entries.
 use Rattle.std.proofs.Common.{◌≡◌, Bool, true, false, List, refl, ◌⊎◌, inl, inr}
-use Rattle.scp_types.specs.declared.names.NodeId.{NodeId}
-use Rattle.scp_vote.specs.declared.statements.Entry.{Entry}
+use Rattle.scp_kv.specs.scp_types.specs.declared.names.NodeId.{NodeId}
+use Rattle.scp_ballot_rules.specs.scp_vote.specs.declared.statements.Entry.{Entry}
 
 abbrev pub Entries : Type 0
 Entries = List (NodeId × Entry)

@@ -1,25 +1,25 @@
 -- What is missing for the next step of a claim (the SCP draft, federated voting; this project's profile).
 use Rattle.std.specs.Prelude.{◌↔◌, ◌≡◌, ◌≢◌, ◌≤◌, ℕ, Bool, true, false, List, map, All, Any, Contains, Option, Some, None, IsSome, IsSomeAnd}
 use Rattle.std.specs.List.Sorted.{IsStrictlySortedBy}
-use Rattle.scp_types.specs.declared.names.NodeId.{NodeId}
-use Rattle.scp_types.specs.declared.ballot.Ballot.{Ballot}
-use Rattle.scp_quorum.specs.NodeSet.{node_cmp}
-use Rattle.scp_quorum.specs.Satisfies.{Satisfies}
-use Rattle.scp_envelope.specs.declared.statement.Pledges.{Pledges}
-use Rattle.scp_envelope.specs.declared.statement.Pledges.TheVariants.{Prepare, Confirm, Externalize, Nominate}
-use Rattle.scp_envelope.specs.declared.statement.Confirm.{Confirm as Confirming}
-use Rattle.scp_envelope.specs.Ballots.{value_cmp}
+use Rattle.scp_kv.specs.scp_types.specs.declared.names.NodeId.{NodeId}
+use Rattle.scp_kv.specs.scp_types.specs.declared.ballot.Ballot.{Ballot}
+use Rattle.scp_ballot_rules.specs.scp_quorum.specs.NodeSet.{node_cmp}
+use Rattle.scp_ballot_rules.specs.scp_quorum.specs.Satisfies.{Satisfies}
+use Rattle.scp_ballot_rules.specs.scp_envelope.specs.declared.statement.Pledges.{Pledges}
+use Rattle.scp_ballot_rules.specs.scp_envelope.specs.declared.statement.Pledges.TheVariants.{Prepare, Confirm, Externalize, Nominate}
+use Rattle.scp_ballot_rules.specs.scp_envelope.specs.declared.statement.Confirm.{Confirm as Confirming}
+use Rattle.scp_ballot_rules.specs.scp_envelope.specs.Ballots.{value_cmp}
 use Rattle.scp_kv.specs.Op.{ops_in}
 use Rattle.scp_ballot_rules.specs.Owed.{IsCandidate, IsBoundary}
-use Rattle.scp_vote.specs.declared.board.Board.{Board}
-use Rattle.scp_vote.specs.declared.claim.StatementKind.TheVariants.{Nomination, Balloting}
-use Rattle.scp_vote.specs.declared.claim.Claim.{Claim}
-use Rattle.scp_vote.specs.declared.claim.Claim.TheVariants.{Prepared, Committed, Nominated}
-use Rattle.scp_vote.specs.declared.claim.Support.{Support}
-use Rattle.scp_vote.specs.declared.claim.Support.TheVariants.{VotesOrAccepts, Accepts}
-use Rattle.scp_vote.specs.Claims.{Stands}
-use Rattle.scp_vote.specs.Board.{Seen, Has, Accepted, Confirmed, kind_of}
-use Rattle.scp_vote.specs.Seen.{seen}
+use Rattle.scp_ballot_rules.specs.scp_vote.specs.declared.board.Board.{Board}
+use Rattle.scp_ballot_rules.specs.scp_vote.specs.declared.claim.StatementKind.TheVariants.{Nomination, Balloting}
+use Rattle.scp_ballot_rules.specs.scp_vote.specs.declared.claim.Claim.{Claim}
+use Rattle.scp_ballot_rules.specs.scp_vote.specs.declared.claim.Claim.TheVariants.{Prepared, Committed, Nominated}
+use Rattle.scp_ballot_rules.specs.scp_vote.specs.declared.claim.Support.{Support}
+use Rattle.scp_ballot_rules.specs.scp_vote.specs.declared.claim.Support.TheVariants.{VotesOrAccepts, Accepts}
+use Rattle.scp_ballot_rules.specs.scp_vote.specs.Claims.{Stands}
+use Rattle.scp_ballot_rules.specs.scp_vote.specs.Board.{Seen, Has, Accepted, Confirmed, kind_of}
+use Rattle.scp_ballot_rules.specs.scp_vote.specs.Seen.{seen}
 use Rattle.scp_stand_needs.specs.declared.steps.Step.{Step}
 use Rattle.scp_stand_needs.specs.declared.steps.Step.TheVariants.{AcceptNominated, ConfirmNominated, AcceptPrepared, ConfirmPrepared, AcceptCommit, ConfirmCommit}
 use Rattle.scp_stand_needs.specs.declared.steps.Need.{Need}

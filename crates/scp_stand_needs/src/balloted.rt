@@ -2,23 +2,23 @@
 ghost use Rattle.std.specs.Prelude.{◌≡◌, ℕ, List, Some, Contains, IfOk, OnOk, IsOkUnless};
 ghost use Rattle.std.specs.Option.{unwrap_or};
 ghost use Rattle.std.specs.BTreeMap as tree;
-ghost use Rattle.scp_envelope.specs.Ballots.{value_cmp};
-ghost use Rattle.scp_envelope.specs.declared.statement.Pledges.TheVariants.{Confirm as Confirming};
+ghost use Rattle.scp_ballot_rules.specs.scp_envelope.specs.Ballots.{value_cmp};
+ghost use Rattle.scp_ballot_rules.specs.scp_envelope.specs.declared.statement.Pledges.TheVariants.{Confirm as Confirming};
 ghost use Rattle.scp_ballot_rules.specs.Greatest.{ballot_at};
 ghost use Rattle.scp_ballot_rules.specs.Owed.{IsCandidate, IsBoundary};
-ghost use Rattle.scp_vote.specs.declared.claim.Claim.TheVariants.{Prepared, Committed};
-ghost use Rattle.scp_vote.specs.declared.claim.StatementKind.TheVariants.{Balloting};
-ghost use Rattle.scp_vote.specs.Seen.{seen};
+ghost use Rattle.scp_ballot_rules.specs.scp_vote.specs.declared.claim.Claim.TheVariants.{Prepared, Committed};
+ghost use Rattle.scp_ballot_rules.specs.scp_vote.specs.declared.claim.StatementKind.TheVariants.{Balloting};
+ghost use Rattle.scp_ballot_rules.specs.scp_vote.specs.Seen.{seen};
 ghost use Rattle.scp_stand_needs.specs.declared.steps.Step.TheVariants.{AcceptPrepared, ConfirmPrepared, AcceptCommit};
 ghost use Rattle.scp_stand_needs.specs.Needs.{IsPreparing, IsTopBallot, IsBallotDue, AreBallotNeeds};
 ghost use Rattle.scp_stand_needs.specs.inside.Found.{IsGreatest, Raises, IsNeedOf, IsNext, IsNeedFor};
 
 use crate::steps::{Need, Step, add, need_unless_reached, next};
+use scp_ballot_rules::below::envelope::{Confirm, Pledges};
+use scp_ballot_rules::below::vote::{Board, Claim, StatementKind};
 use scp_ballot_rules::boundaries::boundaries;
 use scp_ballot_rules::candidates::candidates;
-use scp_envelope::{Confirm, Pledges};
-use scp_types::{Ballot, Fault, NodeId, SharedValue, Value};
-use scp_vote::{Board, Claim, StatementKind};
+use scp_kv::below::types::{Ballot, Fault, NodeId, SharedValue, Value};
 use std::alloc::Global;
 use std::collections::BTreeMap;
 

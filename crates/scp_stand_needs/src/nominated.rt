@@ -1,21 +1,21 @@
 //! What values need to become candidates of the nomination.
 ghost use Rattle.std.specs.Prelude.{◌≡◌, ◌↔◌, ℕ, List, IsTrue, IsSome, Contains, IfOk, OnOk, IsOkUnless};
 ghost use Rattle.std.specs.BTreeSet.{contains};
-ghost use Rattle.scp_envelope.specs.Ballots.{value_cmp};
+ghost use Rattle.scp_ballot_rules.specs.scp_envelope.specs.Ballots.{value_cmp};
 ghost use Rattle.scp_kv.specs.Op.{ops_in};
-ghost use Rattle.scp_vote.specs.declared.claim.Claim.TheVariants.{Nominated};
-ghost use Rattle.scp_vote.specs.declared.claim.StatementKind.TheVariants.{Nomination};
-ghost use Rattle.scp_vote.specs.declared.claim.Support.TheVariants.{VotesOrAccepts};
-ghost use Rattle.scp_vote.specs.Claims.{Stands};
-ghost use Rattle.scp_vote.specs.Seen.{seen};
+ghost use Rattle.scp_ballot_rules.specs.scp_vote.specs.declared.claim.Claim.TheVariants.{Nominated};
+ghost use Rattle.scp_ballot_rules.specs.scp_vote.specs.declared.claim.StatementKind.TheVariants.{Nomination};
+ghost use Rattle.scp_ballot_rules.specs.scp_vote.specs.declared.claim.Support.TheVariants.{VotesOrAccepts};
+ghost use Rattle.scp_ballot_rules.specs.scp_vote.specs.Claims.{Stands};
+ghost use Rattle.scp_ballot_rules.specs.scp_vote.specs.Seen.{seen};
 ghost use Rattle.scp_stand_needs.specs.Needs.{IsNamed, IsNominationDue, AreNominationNeeds};
 ghost use Rattle.scp_stand_needs.specs.inside.Found.{Adds, IsNeedFor};
 
 use crate::steps::{Need, Step, add, next};
-use scp_envelope::Pledges;
+use scp_ballot_rules::below::envelope::Pledges;
+use scp_ballot_rules::below::vote::{Board, Claim, StatementKind};
+use scp_kv::below::types::{Fault, NodeId, Value};
 use scp_kv::is_ops;
-use scp_types::{Fault, NodeId, Value};
-use scp_vote::{Board, Claim, StatementKind};
 use std::alloc::Global;
 use std::collections::BTreeSet;
 

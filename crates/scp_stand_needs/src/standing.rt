@@ -1,15 +1,15 @@
 //! The nodes whose statements support a claim.
 ghost use Rattle.std.specs.Prelude.{◌≡◌, ◌↔◌, ◌++◌, ◌∷◌, [], true, if◌then◌else◌, is_some, Contains, IsTrue, IfOk, OnOk};
 ghost use Rattle.std.specs.List.Sorted.{IsStrictlySortedBy};
-ghost use Rattle.scp_types.specs.declared.names.NodeId.{NodeId};
-ghost use Rattle.scp_quorum.specs.NodeSet.{node_cmp};
-ghost use Rattle.scp_vote.specs.Board.{Has, kind_of};
-ghost use Rattle.scp_vote.specs.Claims.{Stands};
-ghost use Rattle.scp_vote.specs.Seen.{seen};
+ghost use Rattle.scp_kv.specs.scp_types.specs.declared.names.NodeId.{NodeId};
+ghost use Rattle.scp_ballot_rules.specs.scp_quorum.specs.NodeSet.{node_cmp};
+ghost use Rattle.scp_ballot_rules.specs.scp_vote.specs.Board.{Has, kind_of};
+ghost use Rattle.scp_ballot_rules.specs.scp_vote.specs.Claims.{Stands};
+ghost use Rattle.scp_ballot_rules.specs.scp_vote.specs.Seen.{seen};
 ghost use Rattle.scp_stand_needs.specs.Needs.{AreStanding};
 
-use scp_types::NodeId;
-use scp_vote::{Board, Claim, StatementKind, Support, stands};
+use scp_ballot_rules::below::vote::{Board, Claim, StatementKind, Support, stands};
+use scp_kv::below::types::NodeId;
 use std::alloc::{AllocError, Global};
 
 /// Adds the node, if it is one of those.

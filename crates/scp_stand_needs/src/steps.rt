@@ -1,18 +1,18 @@
 //! What a step of a claim needs.
 ghost use Rattle.std.specs.Prelude.{◌≡◌, ◌↔◌, ◌⊎◌, ◌++◌, true, false, option_to_list, Contains, IsTrue, IfOk, OnOk, IsOkUnless};
-ghost use Rattle.scp_types.specs.declared.names.NodeId.{NodeId};
-ghost use Rattle.scp_quorum.specs.NodeSet.{is_in};
-ghost use Rattle.scp_vote.specs.declared.claim.StatementKind.TheVariants.{Balloting};
-ghost use Rattle.scp_vote.specs.Board.{Has, kind_of};
-ghost use Rattle.scp_vote.specs.Seen.{seen};
+ghost use Rattle.scp_kv.specs.scp_types.specs.declared.names.NodeId.{NodeId};
+ghost use Rattle.scp_ballot_rules.specs.scp_quorum.specs.NodeSet.{is_in};
+ghost use Rattle.scp_ballot_rules.specs.scp_vote.specs.declared.claim.StatementKind.TheVariants.{Balloting};
+ghost use Rattle.scp_ballot_rules.specs.scp_vote.specs.Board.{Has, kind_of};
+ghost use Rattle.scp_ballot_rules.specs.scp_vote.specs.Seen.{seen};
 ghost use Rattle.scp_stand_needs.specs.Needs.{confirms as is_confirming, IsOwed, SettlesElse, IsAgainst, IsLacking, IsOpposed, AreMembers, AreThese, IsShort, counted_by, IsNeed};
 ghost use Rattle.scp_stand_needs.specs.inside.Found.{IsReached, IsNeedOf, IsNext};
 
 use crate::standing::{add_if, standing};
-use scp_envelope::Pledges;
-use scp_quorum::satisfied;
-use scp_types::{Fault, NodeId, Value};
-use scp_vote::{Board, Claim, StatementKind, Support};
+use scp_ballot_rules::below::envelope::Pledges;
+use scp_ballot_rules::below::quorum::satisfied;
+use scp_ballot_rules::below::vote::{Board, Claim, StatementKind, Support};
+use scp_kv::below::types::{Fault, NodeId, Value};
 use std::alloc::{AllocError, Global};
 use std::collections::BTreeSet;
 

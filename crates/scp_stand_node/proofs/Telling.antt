@@ -2,10 +2,10 @@
 use Rattle.std.proofs.Common.{◌≡◌, ◌+◌, ℕ, suc, Bool, List, [], ◌∷◌, ◌++◌, flat_map, ap, sym, ◌∙◌, refl, append_assoc, append-nil, arith}
 use Rattle.std.specs.Prelude.{if◌then◌else◌}
 use Rattle.std.proofs.lemmas.Grind.{flat_map-append}
-use Rattle.scp_types.specs.declared.names.NodeId.{NodeId}
-use Rattle.scp_core.specs.declared.config.Config.{Config}
-use Rattle.scp_core.specs.History.{peer_at}
-use Rattle.scp_script.specs.Nodes.{numbers}
+use Rattle.scp_turn.specs.scp_types.specs.declared.names.NodeId.{NodeId}
+use Rattle.scp_turn.specs.scp_core.specs.declared.config.Config.{Config}
+use Rattle.scp_turn.specs.scp_core.specs.History.{peer_at}
+use Rattle.scp_stand_slot.specs.scp_script.specs.Nodes.{numbers}
 use Rattle.scp_stand_slot.specs.Adding.{Adds}
 use Rattle.scp_stand_node.specs.Links.{of_links, peers_with}
 use Rattle.scp_stand_node.specs.Slots.{AreTexts}

@@ -2,12 +2,12 @@
 use Rattle.std.proofs.Common.{◌≡◌, ◌⊎◌, inl, inr, ◌↔◌, ℕ, Bool, true, false, List, [], ◌++◌, ap, sym, ◌∙◌, refl, append_assoc, append-nil}
 use Rattle.std.specs.Prelude.{Option, find, IsTrue}
 use Rattle.std.proofs.lemmas.Bool.{false≢true}
-use Rattle.scp_types.specs.declared.limits.TheConstants.{WINDOW}
-use Rattle.scp_types.specs.declared.names.NodeId.{NodeId}
-use Rattle.scp_nominate.specs.Turns.{AreInTurn}
-use Rattle.scp_ledger.specs.Decisions.{is_at}
-use Rattle.scp_ledger.specs.Seen.{machine_at}
-use Rattle.scp_core.specs.Kv.{NodeView}
+use Rattle.scp_turn.specs.scp_types.specs.declared.limits.TheConstants.{WINDOW}
+use Rattle.scp_turn.specs.scp_types.specs.declared.names.NodeId.{NodeId}
+use Rattle.scp_turn.specs.scp_nominate.specs.Turns.{AreInTurn}
+use Rattle.scp_turn.specs.scp_ledger.specs.Decisions.{is_at}
+use Rattle.scp_turn.specs.scp_ledger.specs.Seen.{machine_at}
+use Rattle.scp_turn.specs.scp_core.specs.Kv.{NodeView}
 use Rattle.scp_turn.specs.Turn.{links_of}
 use Rattle.scp_stand_slot.specs.declared.names.Names.{Names}
 use Rattle.scp_stand_slot.specs.Adding.{Adds}

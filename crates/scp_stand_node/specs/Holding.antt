@@ -1,17 +1,17 @@
 -- The sets that a node wants, and the messages that it holds until they come (this project's profile).
 use Rattle.std.specs.Prelude.{ℕ, false, List, ◌++◌, [], Option, Some, None, codes, flat_map, slice_index_or}
 use Rattle.std.specs.Fmt.{decimal}
-use Rattle.scp_types.specs.declared.names.Hash.{Hash}
-use Rattle.scp_types.specs.declared.names.NodeId.{NodeId}
-use Rattle.scp_types.specs.declared.names.Seq.{Seq}
-use Rattle.scp_fetch.specs.declared.want.Want.{Want}
-use Rattle.scp_pending.specs.Queues.{parked_of, first_waiting}
-use Rattle.scp_pending.specs.Line.{count_held}
-use Rattle.scp_core.specs.History.{peer_at}
-use Rattle.scp_core.specs.Node.{lives_at}
-use Rattle.scp_core.specs.Kv.{NodeView}
+use Rattle.scp_turn.specs.scp_types.specs.declared.names.Hash.{Hash}
+use Rattle.scp_turn.specs.scp_types.specs.declared.names.NodeId.{NodeId}
+use Rattle.scp_turn.specs.scp_types.specs.declared.names.Seq.{Seq}
+use Rattle.scp_turn.specs.scp_fetch.specs.declared.want.Want.{Want}
+use Rattle.scp_turn.specs.scp_pending.specs.Queues.{parked_of, first_waiting}
+use Rattle.scp_turn.specs.scp_pending.specs.Line.{count_held}
+use Rattle.scp_turn.specs.scp_core.specs.History.{peer_at}
+use Rattle.scp_turn.specs.scp_core.specs.Node.{lives_at}
+use Rattle.scp_turn.specs.scp_core.specs.Kv.{NodeView}
 use Rattle.scp_turn.specs.Turn.{links_of}
-use Rattle.scp_script.specs.Nodes.{numbers}
+use Rattle.scp_stand_slot.specs.scp_script.specs.Nodes.{numbers}
 use Rattle.scp_stand_slot.specs.declared.names.Names.{Names}
 use Rattle.scp_stand_slot.specs.Names.{node_name, name_of, nodes_text}
 use Rattle.scp_stand_node.specs.Links.{peers_with, conn_on}

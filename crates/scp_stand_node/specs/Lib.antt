@@ -1,3 +1,10 @@
+pub use Rattle.scp_turn.specs.scp_types
+pub use Rattle.scp_turn.specs.scp_wire
+pub use Rattle.scp_turn.specs.scp_core
+pub use Rattle.scp_turn
+pub use Rattle.scp_stand_slot.specs.scp_device
+pub use Rattle.scp_stand_slot.specs.scp_script
+pub use Rattle.scp_stand_slot
 pub mod Links
 pub mod Slots
 pub mod Holding

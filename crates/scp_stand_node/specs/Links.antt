@@ -2,22 +2,22 @@
 use Rattle.std.specs.Prelude.{ℕ, zero, suc, Bool, false, List, [], ◌∷◌, ◌++◌, Option, Some, None, length, codes, nat_eq, nat_lt, flat_map, option_to_list, slice_get, get_or, if◌then◌else◌}
 use Rattle.std.specs.Fmt.{decimal}
 use Rattle.std.specs.List.{list_any}
-use Rattle.scp_types.specs.declared.names.ConnId.{ConnId}
-use Rattle.scp_types.specs.declared.names.NodeId.{NodeId}
-use Rattle.scp_wire.specs.declared.link.Cause.{Cause}
-use Rattle.scp_wire.specs.declared.link.Cause.TheVariants.{Malformed, Link, Spent, ParkedFull}
-use Rattle.scp_wire.specs.Connections.{conn_at, same_conn}
-use Rattle.scp_ledger.specs.declared.journal.Fate.{Fate}
-use Rattle.scp_ledger.specs.declared.journal.Fate.TheVariants.{Taken, Dropped, Closed}
-use Rattle.scp_core.specs.declared.config.Config.{Config}
-use Rattle.scp_core.specs.History.{peer_at}
-use Rattle.scp_core.specs.Node.{lives_at, queued_at}
-use Rattle.scp_core.specs.Kv.{NodeView}
+use Rattle.scp_turn.specs.scp_types.specs.declared.names.ConnId.{ConnId}
+use Rattle.scp_turn.specs.scp_types.specs.declared.names.NodeId.{NodeId}
+use Rattle.scp_turn.specs.scp_wire.specs.declared.link.Cause.{Cause}
+use Rattle.scp_turn.specs.scp_wire.specs.declared.link.Cause.TheVariants.{Malformed, Link, Spent, ParkedFull}
+use Rattle.scp_turn.specs.scp_wire.specs.Connections.{conn_at, same_conn}
+use Rattle.scp_turn.specs.scp_ledger.specs.declared.journal.Fate.{Fate}
+use Rattle.scp_turn.specs.scp_ledger.specs.declared.journal.Fate.TheVariants.{Taken, Dropped, Closed}
+use Rattle.scp_turn.specs.scp_core.specs.declared.config.Config.{Config}
+use Rattle.scp_turn.specs.scp_core.specs.History.{peer_at}
+use Rattle.scp_turn.specs.scp_core.specs.Node.{lives_at, queued_at}
+use Rattle.scp_turn.specs.scp_core.specs.Kv.{NodeView}
 use Rattle.scp_turn.specs.Turn.{links_of}
-use Rattle.scp_outbox.specs.Handing.{waiting_at}
-use Rattle.scp_script.specs.declared.command.Command.{Command}
-use Rattle.scp_script.specs.declared.command.Command.TheVariants as script
-use Rattle.scp_script.specs.Script.{is_link, is_open}
+use Rattle.scp_turn.specs.scp_outbox.specs.Handing.{waiting_at}
+use Rattle.scp_stand_slot.specs.scp_script.specs.declared.command.Command.{Command}
+use Rattle.scp_stand_slot.specs.scp_script.specs.declared.command.Command.TheVariants as script
+use Rattle.scp_stand_slot.specs.scp_script.specs.Script.{is_link, is_open}
 use Rattle.scp_stand_slot.specs.declared.names.Names.{Names}
 use Rattle.scp_stand_slot.specs.Names.{node_name}
 use Rattle.scp_stand_node.specs.declared.stand.Lines.{Lines}

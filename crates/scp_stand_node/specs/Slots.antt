@@ -2,23 +2,23 @@
 use Rattle.std.specs.Prelude.{ℕ, zero, suc, ◌≡◌, ◌+◌, Bool, true, false, ◌&&◌, ◌||◌, List, [], ◌∷◌, ◌++◌, ◌⊎◌, Option, Some, None, codes, nat_eq, nat_le, find, if◌then◌else◌}
 use Rattle.std.specs.Fmt.{decimal}
 use Rattle.std.specs.List.{list_any}
-use Rattle.scp_types.specs.declared.names.NodeId.{NodeId}
-use Rattle.scp_driver.specs.declared.kv_driver.KvDriver.{KvDriver}
-use Rattle.scp_slot.specs.declared.machine.SlotMachine.{SlotMachine}
-use Rattle.scp_wire.specs.declared.message.Message.{Message}
-use Rattle.scp_wire.specs.declared.message.Message.TheVariants.{Envelope, GetSet, Set, NoSet, GetRecord, Record, Records}
-use Rattle.scp_ledger.specs.declared.journal.Fate.{Fate}
-use Rattle.scp_ledger.specs.declared.journal.Fate.TheVariants.{Taken, Dropped, Closed}
-use Rattle.scp_ledger.specs.declared.journal.Verdict.{Verdict}
-use Rattle.scp_ledger.specs.declared.journal.Verdict.TheVariants.{OldSlot, FarSlot, Already, Unasked, Own, BadStatement, BadValue, Stale, Idle, Fresh, Forwarded, Decided}
-use Rattle.scp_ledger.specs.declared.journal.Decision.{Decision}
-use Rattle.scp_ledger.specs.Decisions.{is_at}
-use Rattle.scp_ledger.specs.Seen.{is_asked, machine_at}
-use Rattle.scp_core.specs.Kv.{NodeView}
+use Rattle.scp_turn.specs.scp_types.specs.declared.names.NodeId.{NodeId}
+use Rattle.scp_turn.specs.scp_driver.specs.declared.kv_driver.KvDriver.{KvDriver}
+use Rattle.scp_turn.specs.scp_slot.specs.declared.machine.SlotMachine.{SlotMachine}
+use Rattle.scp_turn.specs.scp_wire.specs.declared.message.Message.{Message}
+use Rattle.scp_turn.specs.scp_wire.specs.declared.message.Message.TheVariants.{Envelope, GetSet, Set, NoSet, GetRecord, Record, Records}
+use Rattle.scp_turn.specs.scp_ledger.specs.declared.journal.Fate.{Fate}
+use Rattle.scp_turn.specs.scp_ledger.specs.declared.journal.Fate.TheVariants.{Taken, Dropped, Closed}
+use Rattle.scp_turn.specs.scp_ledger.specs.declared.journal.Verdict.{Verdict}
+use Rattle.scp_turn.specs.scp_ledger.specs.declared.journal.Verdict.TheVariants.{OldSlot, FarSlot, Already, Unasked, Own, BadStatement, BadValue, Stale, Idle, Fresh, Forwarded, Decided}
+use Rattle.scp_turn.specs.scp_ledger.specs.declared.journal.Decision.{Decision}
+use Rattle.scp_turn.specs.scp_ledger.specs.Decisions.{is_at}
+use Rattle.scp_turn.specs.scp_ledger.specs.Seen.{is_asked, machine_at}
+use Rattle.scp_turn.specs.scp_core.specs.Kv.{NodeView}
 use Rattle.scp_turn.specs.Turn.{links_of}
-use Rattle.scp_text.specs.Values.{value_text}
-use Rattle.scp_script.specs.declared.command.Command.{Command}
-use Rattle.scp_script.specs.declared.command.Command.TheVariants as script
+use Rattle.scp_stand_slot.specs.scp_text.specs.Values.{value_text}
+use Rattle.scp_stand_slot.specs.scp_script.specs.declared.command.Command.{Command}
+use Rattle.scp_stand_slot.specs.scp_script.specs.declared.command.Command.TheVariants as script
 use Rattle.scp_stand_slot.specs.declared.names.Names.{Names}
 use Rattle.scp_stand_slot.specs.Names.{nodes_text, slot_words}
 use Rattle.scp_stand_slot.specs.Machine.{IsMachineText, IsBlankMachine}

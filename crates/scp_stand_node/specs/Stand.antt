@@ -1,13 +1,13 @@
 -- The status of a node, in lines (this project's profile).
 use Rattle.std.specs.Prelude.{ℕ, ◌≡◌, false, List, Option, ◌++◌, length, codes}
 use Rattle.std.specs.Fmt.{decimal}
-use Rattle.scp_types.specs.declared.limits.TheConstants.{WINDOW}
-use Rattle.scp_types.specs.declared.names.NodeId.{NodeId}
-use Rattle.scp_nominate.specs.Turns.{AreInTurn}
-use Rattle.scp_core.specs.Kv.{NodeView}
+use Rattle.scp_turn.specs.scp_types.specs.declared.limits.TheConstants.{WINDOW}
+use Rattle.scp_turn.specs.scp_types.specs.declared.names.NodeId.{NodeId}
+use Rattle.scp_turn.specs.scp_nominate.specs.Turns.{AreInTurn}
+use Rattle.scp_turn.specs.scp_core.specs.Kv.{NodeView}
 use Rattle.scp_turn.specs.Turn.{links_of}
-use Rattle.scp_driver.specs.Kv.{kv_says}
-use Rattle.scp_ledger.specs.By.{RunsBy}
+use Rattle.scp_turn.specs.scp_driver.specs.Kv.{kv_says}
+use Rattle.scp_turn.specs.scp_ledger.specs.By.{RunsBy}
 use Rattle.scp_stand_slot.specs.declared.names.Names.{Names}
 use Rattle.scp_stand_slot.specs.Names.{node_name, set_named}
 use Rattle.scp_stand_node.specs.Links.{of_links, link_text, queues_text, unsent_text, ScriptLines}

@@ -1,15 +1,15 @@
 //! The sets that a node wants, and the messages that it holds until they come.
 ghost use Rattle.std.specs.Prelude.{◌≡◌, ◌++◌, false, slice_index_or, IfOk, OnOk, IsOkUnless, string_bytes, flat_map, map};
-ghost use Rattle.scp_core.specs.History.{peer_at};
+ghost use Rattle.scp_turn.specs.scp_core.specs.History.{peer_at};
 ghost use Rattle.scp_turn.specs.Turn.{links_of};
 ghost use Rattle.scp_stand_node.specs.Links.{of_links};
 ghost use Rattle.scp_stand_node.specs.Holding.{asked_for, asked_line, want_line, wants_text, held_text, life_text, held_on};
 
 use crate::others::{add_if, conn_of, links, peer_of, write_me, write_peer};
-use scp_core::Node;
-use scp_fetch::Want;
 use scp_stand_slot::{Names, write_nodes};
-use scp_types::{Fault, Hash, NodeId, Seq};
+use scp_turn::below::fetch::Want;
+use scp_turn::below::node::Node;
+use scp_turn::below::types::{Fault, Hash, NodeId, Seq};
 use std::alloc::Global;
 
 /// Whether the node at the other end of a link was asked for a wanted set.

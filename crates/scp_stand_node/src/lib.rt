@@ -5,6 +5,7 @@
 //! and whether a round or a timer began a slot. A node that plays in no script has none.
 #![tactic(auto)]
 
+pub mod below;
 mod holding;
 mod links;
 mod others;

@@ -1,17 +1,17 @@
 //! A node's links, its queues, and what it didn't send.
 ghost use Rattle.std.specs.Prelude.{◌≡◌, ◌++◌, true, false, OnOk, IsOkUnless, string_bytes, if◌then◌else◌};
 ghost use Rattle.std.specs.List.{list_any};
-ghost use Rattle.scp_core.specs.History.{peer_at};
+ghost use Rattle.scp_turn.specs.scp_core.specs.History.{peer_at};
 ghost use Rattle.scp_turn.specs.Turn.{links_of};
-ghost use Rattle.scp_script.specs.Script.{opens, closes, is_open};
+ghost use Rattle.scp_stand_slot.specs.scp_script.specs.Script.{opens, closes, is_open};
 ghost use Rattle.scp_stand_node.specs.Links.{of_links, cause_word, cause_by, ended_by, never_line, closed_text, link_text, queue_text, link_queue_line, queued_on, queues_text, number_in, script_of, sends, why_unsent, unsent_line, unsent_text};
 
 use crate::others::{conn_of, links, peer_of, write_me, write_peer};
 use crate::stand::Lines;
-use scp_core::{Cause, Fate, Node};
-use scp_script::Command;
 use scp_stand_slot::Names;
-use scp_types::{ConnId, Fault, NodeId};
+use scp_stand_slot::below::script::Command;
+use scp_turn::below::node::{Cause, Fate, Node};
+use scp_turn::below::types::{ConnId, Fault, NodeId};
 
 fn word_of_cause(cause: Cause) -> &'static str
     ensures { result.now ≡ cause_word cause }

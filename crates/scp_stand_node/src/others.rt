@@ -1,13 +1,13 @@
 //! The links of a node, and the nodes at their other ends.
 ghost use Rattle.std.specs.Prelude.{◌≡◌, ◌++◌, [], ◌∷◌, false, OnOk, IsOkUnless, if◌then◌else◌, string_bytes};
 ghost use Rattle.scp_turn.specs.Turn.{links_of};
-ghost use Rattle.scp_core.specs.History.{peer_at};
+ghost use Rattle.scp_turn.specs.scp_core.specs.History.{peer_at};
 ghost use Rattle.scp_stand_slot.specs.Names.{node_name};
 ghost use Rattle.scp_stand_node.specs.Links.{conn_on};
 
-use scp_core::Node;
 use scp_stand_slot::Names;
-use scp_types::{ConnId, Fault, LINK_LIMIT, NodeId};
+use scp_turn::below::node::Node;
+use scp_turn::below::types::{ConnId, Fault, LINK_LIMIT, NodeId};
 
 /// The number of links.
 pub fn links(node: &Node) -> u8

@@ -1,8 +1,8 @@
 //! The lines of a node's slots.
 ghost use Rattle.std.specs.Prelude.{◌≡◌, ◌↔◌, ◌++◌, false, find, Some, IsTrue, IfOk, OnOk, IsOkUnless, string_bytes, option_copied};
 ghost use Rattle.std.specs.List.{list_any};
-ghost use Rattle.scp_ledger.specs.Decisions.{is_at};
-ghost use Rattle.scp_ledger.specs.Seen.{is_asked, machine_at};
+ghost use Rattle.scp_turn.specs.scp_ledger.specs.Decisions.{is_at};
+ghost use Rattle.scp_turn.specs.scp_ledger.specs.Seen.{is_asked, machine_at};
 ghost use Rattle.scp_stand_slot.specs.Adding.{Adds};
 ghost use Rattle.scp_stand_node.specs.Links.{script_of};
 ghost use Rattle.scp_stand_node.specs.Slots.{decided_text, asked_of, asked_text, is_machines, is_of, is_judged, moves, rests, is_taken, is_taken_in, is_begun, IsHidden, IsToldOf, IsSlotText, slot_above, IsTextOf, IsTextAbove, AreTexts};
@@ -10,15 +10,15 @@ ghost use Rattle.scp_stand_node.specs.Slots.{decided_text, asked_of, asked_text,
 use crate::links::number_of;
 use crate::others::{add_if, links, lowest_of, peer_of};
 use crate::stand::{Lines, Seen};
-use scp_core::{Fate, Node, SharedDecision, Verdict};
-use scp_driver::KvDriver;
-use scp_ledger::LAST_SLOT;
-use scp_script::Command;
-use scp_slot::SlotMachine;
+use scp_stand_slot::below::script::Command;
+use scp_stand_slot::below::text::Term;
 use scp_stand_slot::{Names, Place, is_blank, write_machine, write_nodes, write_slot_words};
-use scp_text::Term;
-use scp_types::{Fault, NodeId, Slot, WINDOW};
-use scp_wire::Message;
+use scp_turn::below::driver::KvDriver;
+use scp_turn::below::ledger::LAST_SLOT;
+use scp_turn::below::node::{Fate, Node, SharedDecision, Verdict};
+use scp_turn::below::slot::SlotMachine;
+use scp_turn::below::types::{Fault, NodeId, Slot, WINDOW};
+use scp_turn::below::wire::Message;
 use std::alloc::Global;
 
 /// Whether this is the decision of the slot.

@@ -1,6 +1,6 @@
 //! The status of a node.
 ghost use Rattle.std.specs.Prelude.{◌≡◌, ◌++◌, false, IfOk, OnOk, IsOkUnless, string_bytes};
-ghost use Rattle.scp_nominate.specs.Turns.{AreInTurn};
+ghost use Rattle.scp_turn.specs.scp_nominate.specs.Turns.{AreInTurn};
 ghost use Rattle.scp_stand_slot.specs.Adding.{Adds};
 ghost use Rattle.scp_stand_node.specs.Links.{script_of};
 ghost use Rattle.scp_stand_node.specs.Stand.{IsSeen, stands_words, stands_line, IsStand};
@@ -9,11 +9,11 @@ use crate::holding::{write_holds, write_wants};
 use crate::links::{write_links, write_queues, write_unsent};
 use crate::others::{lowest_of, write_me};
 use crate::slots::write_slots;
-use scp_core::Node;
-use scp_nominate::nodes_with;
-use scp_script::Command;
+use scp_stand_slot::below::script::Command;
 use scp_stand_slot::{Names, write_set};
-use scp_types::{Fault, NodeId};
+use scp_turn::below::node::Node;
+use scp_turn::below::nominate::nodes_with;
+use scp_turn::below::types::{Fault, NodeId};
 use std::alloc::Global;
 
 /// The lines of the script in which a node plays.

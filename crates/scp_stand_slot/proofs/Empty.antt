@@ -6,8 +6,8 @@ use Rattle.std.specs.BTreeMap.{BTreeMap, btree_map_len}
 use Rattle.std.proofs.lemmas.Bool.{cases_lt}
 use Rattle.std.proofs.lemmas.List.{length-map, get_or_default}
 use Rattle.std.proofs.lemmas.Map.Views.{btree_map_contains_key_iff}
-use Rattle.scp_types.specs.declared.names.NodeId.{NodeId}
-use Rattle.scp_quorum.specs.NodeSet.{node_cmp}
+use Rattle.scp_slot.specs.scp_types.specs.declared.names.NodeId.{NodeId}
+use Rattle.scp_slot.specs.scp_quorum.specs.NodeSet.{node_cmp}
 use Rattle.scp_stand_slot.proofs.Same.{node_total, node_exact}
 
 some_or_none : {A : Type 0} (o : Option A) → (IsSome o) ⊎ (o ≡ None)

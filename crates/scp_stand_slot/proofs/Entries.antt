@@ -2,8 +2,8 @@
 use Rattle.std.proofs.Common.{◌≡◌, ℕ, true, List, [], ◌∷◌, ◌++◌, map, refl, sym, ◌∙◌, ap, append_assoc}
 use Rattle.std.specs.Prelude.{codes}
 use Rattle.std.specs.Fmt.{decimal}
-use Rattle.scp_xdr.specs.Tree.{in_a_row}
-use Rattle.scp_quorum.specs.QuorumTree.{QuorumTree}
+use Rattle.scp_slot.specs.scp_xdr.specs.Tree.{in_a_row}
+use Rattle.scp_slot.specs.scp_quorum.specs.QuorumTree.{QuorumTree}
 use Rattle.scp_text.specs.Pieces.{listed}
 use Rattle.scp_text.proofs.Rows.{is_nil, listed_both, nil_map}
 use Rattle.scp_stand_slot.specs.declared.names.Names.{Names}

@@ -5,9 +5,9 @@ use Rattle.std.proofs.Common.{◌≡◌, ◌↔◌, ◌+◌, ◌<◌, ◌≤◌,
 use Rattle.std.proofs.lemmas.List.{take_more, take_all}
 use Rattle.std.proofs.lemmas.List.Elements.{Contains-append_left, Contains-push, Contains-push_cases}
 use Rattle.std.specs.BTreeMap.{is_at}
-use Rattle.scp_types.specs.declared.names.NodeId.{NodeId}
-use Rattle.scp_quorum.specs.NodeSet.{node_cmp}
-use Rattle.scp_wire.specs.Connections.{same_node}
+use Rattle.scp_slot.specs.scp_types.specs.declared.names.NodeId.{NodeId}
+use Rattle.scp_slot.specs.scp_quorum.specs.NodeSet.{node_cmp}
+use Rattle.scp_script.specs.scp_wire.specs.Connections.{same_node}
 use Rattle.scp_stand_slot.proofs.Same.{decided, same_at, at_itself}
 
 -- a node was put into a set

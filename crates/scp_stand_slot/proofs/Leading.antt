@@ -4,10 +4,10 @@ use Rattle.std.proofs.lemmas.Option.{slice_get-get_or}
 use Rattle.std.proofs.Common.{◌≡◌, ◌↔◌, ◌+◌, ◌<◌, ◌≤◌, ℕ, Bool, true, List, [], ◌∷◌, length, get_or, Option, Some, None, sym, ◌∙◌, ap, subst, ◌⊎◌, inl, inr, arith}
 use Rattle.std.specs.Prelude.{slice_get}
 use Rattle.std.proofs.lemmas.Bool.{cases_lt}
-use Rattle.scp_types.specs.declared.names.NodeId.{NodeId}
+use Rattle.scp_slot.specs.scp_types.specs.declared.names.NodeId.{NodeId}
 use Rattle.std.specs.List.Sorted.{IsStrictlySortedBy}
-use Rattle.scp_quorum.specs.NodeSet.{node_cmp}
-use Rattle.scp_nominate.specs.Turns.{Leads}
+use Rattle.scp_slot.specs.scp_quorum.specs.NodeSet.{node_cmp}
+use Rattle.scp_slot.specs.scp_nominate.specs.Turns.{Leads}
 
 pub leads_more : (place : ℕ → ℕ → ℕ) (members : List NodeId) (n : ℕ) (old new : NodeId → Bool)
     → ((v : NodeId) → (new v ≡ true) ↔ ((old v ≡ true) ⊎ (slice_get members (place (n + 1) (length members)) ≡ Some v)))

@@ -1,10 +1,10 @@
 -- One set more in a list.
 use Rattle.std.proofs.Common.{◌≡◌, ◌+◌, ◌<◌, ℕ, suc, List, [], ◌∷◌, ◌++◌, length, get_or, drop, map, flat_map, subst, sym, ◌∙◌, ap, append_assoc, arith, drop-cons}
 use Rattle.std.proofs.lemmas.List.{map_push}
-use Rattle.scp_xdr.specs.Kind.{Fits}
-use Rattle.scp_quorum.specs.QuorumTree.{QuorumTree}
-use Rattle.scp_quorum.specs.QuorumKind.{set_kind, set_value}
-use Rattle.scp_quorum.specs.Sane.{IsSane}
+use Rattle.scp_slot.specs.scp_xdr.specs.Kind.{Fits}
+use Rattle.scp_slot.specs.scp_quorum.specs.QuorumTree.{QuorumTree}
+use Rattle.scp_slot.specs.scp_quorum.specs.QuorumKind.{set_kind, set_value}
+use Rattle.scp_slot.specs.scp_quorum.specs.Sane.{IsSane}
 use Rattle.scp_script.specs.declared.command.Command.{Command}
 use Rattle.scp_script.specs.Nodes.{numbers, set_at}
 use Rattle.scp_stand_slot.specs.Names.{set_sent}

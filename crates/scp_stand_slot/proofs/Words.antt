@@ -1,14 +1,14 @@
 -- Words behind others.
 use Rattle.std.proofs.Common.{◌≡◌, ℕ, Bool, true, false, List, [], ◌∷◌, ◌++◌, Result, Ok, Err, refl, sym, ◌∙◌, ap, append_assoc}
 use Rattle.std.specs.Prelude.{OnOk, if◌then◌else◌}
-use Rattle.scp_types.specs.declared.fault.Fault.{Fault}
+use Rattle.scp_slot.specs.scp_types.specs.declared.fault.Fault.{Fault}
 use Rattle.std.specs.Prelude.{codes}
 use Rattle.std.specs.Fmt.{decimal}
-use Rattle.scp_types.specs.declared.names.NodeId.{NodeId}
-use Rattle.scp_types.specs.declared.names.Slot.{Slot}
-use Rattle.scp_envelope.specs.Kinds.{set_hash_of}
-use Rattle.scp_envelope.specs.declared.statement.Pledges.{Pledges}
-use Rattle.scp_envelope.specs.declared.statement.Pledges.TheVariants.{Prepare, Confirm, Externalize, Nominate}
+use Rattle.scp_slot.specs.scp_types.specs.declared.names.NodeId.{NodeId}
+use Rattle.scp_slot.specs.scp_types.specs.declared.names.Slot.{Slot}
+use Rattle.scp_slot.specs.scp_envelope.specs.Kinds.{set_hash_of}
+use Rattle.scp_slot.specs.scp_envelope.specs.declared.statement.Pledges.{Pledges}
+use Rattle.scp_slot.specs.scp_envelope.specs.declared.statement.Pledges.TheVariants.{Prepare, Confirm, Externalize, Nominate}
 use Rattle.scp_text.specs.Pieces.{listed}
 use Rattle.scp_text.specs.Messages.{pledges_words, signature_words, nominate_words, prepare_words, confirm_words, externalize_words}
 use Rattle.scp_stand_slot.specs.declared.names.Names.{Names}

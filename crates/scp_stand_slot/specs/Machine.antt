@@ -4,25 +4,25 @@ use Rattle.std.specs.Fmt.{decimal}
 use Rattle.std.specs.List.{list_any}
 use Rattle.std.specs.Cmp.Lexicographic.{pointwise}
 use Rattle.std.specs.List.Sorted.{IsStrictlySortedBy}
-use Rattle.scp_types.specs.declared.names.NodeId.{NodeId}
-use Rattle.scp_quorum.specs.NodeSet.{node_cmp}
-use Rattle.scp_envelope.specs.declared.statement.Envelope.{Envelope}
-use Rattle.scp_envelope.specs.declared.statement.Pledges.{Pledges}
-use Rattle.scp_envelope.specs.declared.statement.Pledges.TheVariants.{Prepare, Confirm, Externalize, Nominate}
-use Rattle.scp_vote.specs.declared.board.Board.{Board}
-use Rattle.scp_vote.specs.declared.claim.StatementKind.TheVariants.{Nomination as Nominating, Balloting}
-use Rattle.scp_vote.specs.declared.claim.Claim.{Claim}
-use Rattle.scp_vote.specs.declared.claim.Claim.TheVariants.{Prepared, Committed, Nominated}
-use Rattle.scp_vote.specs.Board.{Seen}
-use Rattle.scp_vote.specs.Seen.{seen, envelope_at}
-use Rattle.scp_wire.specs.Connections.{same_node}
-use Rattle.scp_driver.specs.declared.kv_driver.KvDriver.{KvDriver}
-use Rattle.scp_driver.specs.Kv.{greatest, leader_place}
-use Rattle.scp_nominate.specs.Heard.{heard}
-use Rattle.scp_nominate.specs.Turns.{Leads}
-use Rattle.scp_nominate.specs.Nomination.{Nomination}
+use Rattle.scp_slot.specs.scp_types.specs.declared.names.NodeId.{NodeId}
+use Rattle.scp_slot.specs.scp_quorum.specs.NodeSet.{node_cmp}
+use Rattle.scp_slot.specs.scp_envelope.specs.declared.statement.Envelope.{Envelope}
+use Rattle.scp_slot.specs.scp_envelope.specs.declared.statement.Pledges.{Pledges}
+use Rattle.scp_slot.specs.scp_envelope.specs.declared.statement.Pledges.TheVariants.{Prepare, Confirm, Externalize, Nominate}
+use Rattle.scp_slot.specs.scp_vote.specs.declared.board.Board.{Board}
+use Rattle.scp_slot.specs.scp_vote.specs.declared.claim.StatementKind.TheVariants.{Nomination as Nominating, Balloting}
+use Rattle.scp_slot.specs.scp_vote.specs.declared.claim.Claim.{Claim}
+use Rattle.scp_slot.specs.scp_vote.specs.declared.claim.Claim.TheVariants.{Prepared, Committed, Nominated}
+use Rattle.scp_slot.specs.scp_vote.specs.Board.{Seen}
+use Rattle.scp_slot.specs.scp_vote.specs.Seen.{seen, envelope_at}
+use Rattle.scp_script.specs.scp_wire.specs.Connections.{same_node}
+use Rattle.scp_slot.specs.scp_driver.specs.declared.kv_driver.KvDriver.{KvDriver}
+use Rattle.scp_slot.specs.scp_driver.specs.Kv.{greatest, leader_place}
+use Rattle.scp_slot.specs.scp_nominate.specs.Heard.{heard}
+use Rattle.scp_slot.specs.scp_nominate.specs.Turns.{Leads}
+use Rattle.scp_slot.specs.scp_nominate.specs.Nomination.{Nomination}
 use Rattle.scp_slot.specs.declared.machine.SlotMachine.{SlotMachine}
-use Rattle.scp_nominate.specs.Nomination.{board_of}
+use Rattle.scp_slot.specs.scp_nominate.specs.Nomination.{board_of}
 use Rattle.scp_slot.specs.Slot.{slot_view, nominator_of, balloter_of}
 use Rattle.scp_text.specs.Values.{value_text}
 use Rattle.scp_text.specs.Messages.{ballot_text}

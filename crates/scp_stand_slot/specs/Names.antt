@@ -6,17 +6,17 @@ use Rattle.std.specs.Ordering.{nat_cmp}
 use Rattle.std.specs.declared.cmp.Ordering.{Ordering}
 use Rattle.std.specs.Cmp.Lexicographic.{slice_cmp}
 use Rattle.std.specs.BTreeMap as hash_map
-use Rattle.scp_types.specs.declared.names.Hash.{Hash}
-use Rattle.scp_types.specs.declared.names.NodeId.{NodeId}
-use Rattle.scp_xdr.specs.Tree.{Trees, no_trees, tree_then}
-use Rattle.scp_quorum.specs.QuorumTree.{Level, QuorumTree}
-use Rattle.scp_quorum.specs.QuorumKind.{set_hash}
-use Rattle.scp_envelope.specs.Kinds.{set_hash_of}
-use Rattle.scp_envelope.specs.declared.statement.Envelope.{Envelope}
-use Rattle.scp_wire.specs.declared.message.Message.{Message}
-use Rattle.scp_wire.specs.declared.message.Message.TheVariants.{Envelope as EnvelopeMessage, GetSet, Set as SetMessage, NoSet, GetRecord, Record, Records}
-use Rattle.scp_wire.specs.Connections.{same_node}
-use Rattle.scp_wire.specs.Reading.{reading_of}
+use Rattle.scp_slot.specs.scp_types.specs.declared.names.Hash.{Hash}
+use Rattle.scp_slot.specs.scp_types.specs.declared.names.NodeId.{NodeId}
+use Rattle.scp_slot.specs.scp_xdr.specs.Tree.{Trees, no_trees, tree_then}
+use Rattle.scp_slot.specs.scp_quorum.specs.QuorumTree.{Level, QuorumTree}
+use Rattle.scp_slot.specs.scp_quorum.specs.QuorumKind.{set_hash}
+use Rattle.scp_slot.specs.scp_envelope.specs.Kinds.{set_hash_of}
+use Rattle.scp_slot.specs.scp_envelope.specs.declared.statement.Envelope.{Envelope}
+use Rattle.scp_script.specs.scp_wire.specs.declared.message.Message.{Message}
+use Rattle.scp_script.specs.scp_wire.specs.declared.message.Message.TheVariants.{Envelope as EnvelopeMessage, GetSet, Set as SetMessage, NoSet, GetRecord, Record, Records}
+use Rattle.scp_script.specs.scp_wire.specs.Connections.{same_node}
+use Rattle.scp_script.specs.scp_wire.specs.Reading.{reading_of}
 use Rattle.scp_text.specs.Pieces.{listed, bracketed}
 use Rattle.scp_text.specs.Sets.{node_text, hash_text, set_text}
 use Rattle.scp_text.specs.Messages.{message_words}

@@ -1,22 +1,22 @@
 //! What a slot's machine shows: its leaders, the nodes that it heard, and what it needs.
 ghost use Rattle.std.specs.Prelude.{◌≡◌, ◌≤◌, ◌↔◌, ◌⊎◌, true, false, length, filter, slice_get, Some, is_some, Contains, IfOk, OnOk, IsOkUnless};
 ghost use Rattle.std.specs.List.Sorted.{IsStrictlySortedBy};
-ghost use Rattle.scp_types.specs.declared.names.NodeId.{NodeId};
-ghost use Rattle.scp_quorum.specs.NodeSet.{node_cmp, is_in};
-ghost use Rattle.scp_wire.specs.Connections.{same_node};
-ghost use Rattle.scp_driver.specs.Kv.{leader_place};
-ghost use Rattle.scp_vote.specs.Seen.{seen};
-ghost use Rattle.scp_vote.specs.declared.claim.StatementKind.TheVariants.{Balloting};
-ghost use Rattle.scp_nominate.specs.Heard.{heard};
-ghost use Rattle.scp_nominate.specs.Turns.{Leads};
-ghost use Rattle.scp_nominate.specs.Nomination.{nomination};
+ghost use Rattle.scp_slot.specs.scp_types.specs.declared.names.NodeId.{NodeId};
+ghost use Rattle.scp_slot.specs.scp_quorum.specs.NodeSet.{node_cmp, is_in};
+ghost use Rattle.scp_script.specs.scp_wire.specs.Connections.{same_node};
+ghost use Rattle.scp_slot.specs.scp_driver.specs.Kv.{leader_place};
+ghost use Rattle.scp_slot.specs.scp_vote.specs.Seen.{seen};
+ghost use Rattle.scp_slot.specs.scp_vote.specs.declared.claim.StatementKind.TheVariants.{Balloting};
+ghost use Rattle.scp_slot.specs.scp_nominate.specs.Heard.{heard};
+ghost use Rattle.scp_slot.specs.scp_nominate.specs.Turns.{Leads};
+ghost use Rattle.scp_slot.specs.scp_nominate.specs.Nomination.{nomination};
 ghost use Rattle.scp_stand_slot.specs.Machine.{AreLeaders, AreHeard, is_silent as is_silent_of, lacks_vote as lacks_vote_of, AreToNominate};
 
-use scp_driver::{KvDriver, place_of};
-use scp_nominate::Nominator;
+use scp_slot::below::driver::{KvDriver, place_of};
+use scp_slot::below::nominate::Nominator;
+use scp_slot::below::types::{Fault, NodeId, Slot};
+use scp_slot::below::vote::{Board, StatementKind};
 use scp_stand_needs::{Need, needs_of_nomination};
-use scp_types::{Fault, NodeId, Slot};
-use scp_vote::{Board, StatementKind};
 use std::alloc::{AllocError, Global};
 use std::collections::BTreeSet;
 

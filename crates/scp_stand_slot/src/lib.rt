@@ -8,6 +8,7 @@
 //! - a machine is blank exactly if it heard and said nothing, has no proposal, and had exactly one round.
 #![tactic(auto)]
 
+pub mod below;
 mod facts;
 mod lines;
 mod machine;

@@ -1,18 +1,18 @@
 //! The lines of a slot's machine.
 ghost use Rattle.std.specs.Prelude.{◌≡◌, ◌++◌, Some, OnOk, IsOkUnless, codes, flat_map, option_map, option_copied, string_bytes};
 ghost use Rattle.std.specs.List.{list_any};
-ghost use Rattle.scp_wire.specs.Connections.{same_node};
-ghost use Rattle.scp_nominate.specs.Nomination.{nomination};
+ghost use Rattle.scp_script.specs.scp_wire.specs.Connections.{same_node};
+ghost use Rattle.scp_slot.specs.scp_nominate.specs.Nomination.{nomination};
 ghost use Rattle.scp_stand_slot.specs.Machine.{leads_word, has_value as has_value_of, names_value, proposal_text, rounds_line, is_sent as is_sent_of, phase_word, candidate_text, phase_line, sent as sent_of, statement_line, lines_of, silent_line, votes_line};
 
 use crate::names::Names;
 use crate::statements::write_statement;
 use crate::texts::{write_nodes, write_slot_words, write_value};
-use scp_driver::{Driver, KvDriver};
-use scp_envelope::{Pledges, SharedEnvelope};
-use scp_nominate::Nominator;
-use scp_types::{Fault, NodeId, Slot, Value};
-use scp_vote::{Board, StatementKind};
+use scp_slot::below::driver::{Driver, KvDriver};
+use scp_slot::below::envelope::{Pledges, SharedEnvelope};
+use scp_slot::below::nominate::Nominator;
+use scp_slot::below::types::{Fault, NodeId, Slot, Value};
+use scp_slot::below::vote::{Board, StatementKind};
 
 /// Whether the node leads.
 fn leads(leaders: &[NodeId], me: NodeId) -> bool

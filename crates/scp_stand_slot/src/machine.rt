@@ -1,8 +1,8 @@
 //! The status of a slot's machine.
 ghost use Rattle.std.specs.Prelude.{◌≡◌, ◌↔◌, ◌++◌, IfOk, OnOk, IsOkUnless, IsTrue, None, is_some, string_bytes};
-ghost use Rattle.scp_types.specs.declared.names.NodeId.{NodeId};
-ghost use Rattle.scp_vote.specs.Seen.{seen};
-ghost use Rattle.scp_nominate.specs.Nomination.{nomination};
+ghost use Rattle.scp_slot.specs.scp_types.specs.declared.names.NodeId.{NodeId};
+ghost use Rattle.scp_slot.specs.scp_vote.specs.Seen.{seen};
+ghost use Rattle.scp_slot.specs.scp_nominate.specs.Nomination.{nomination};
 ghost use Rattle.scp_slot.specs.Slot.{slot_view};
 ghost use Rattle.scp_stand_slot.specs.Adding.{Adds};
 ghost use Rattle.scp_stand_slot.specs.Machine.{AreFacts, said_lines, needs_lines, IsMachineText, IsBlankMachine};
@@ -14,12 +14,12 @@ use crate::lines::{
 };
 use crate::names::Names;
 use crate::needs::write_needs;
-use scp_driver::KvDriver;
-use scp_nominate::Nominator;
 use scp_slot::SlotMachine;
+use scp_slot::below::driver::KvDriver;
+use scp_slot::below::nominate::Nominator;
+use scp_slot::below::types::{Fault, NodeId, Slot};
+use scp_slot::below::vote::{Board, StatementKind};
 use scp_stand_needs::{Need, needs_of_ballots};
-use scp_types::{Fault, NodeId, Slot};
-use scp_vote::{Board, StatementKind};
 use std::alloc::Global;
 
 /// The place of the lines: a slot, and the members, which are the nodes of the node's set and itself.

@@ -1,21 +1,21 @@
 //! The names of nodes, and of quorum sets: the text of a script's set, if it is short.
 ghost use Rattle.std.specs.Prelude.{◌≡◌, ◌≤◌, ◌++◌, ◌∷◌, [], List, All, IfOk, IfSome, OnOk, IsOkUnless, map, flat_map, option_map, option_to_list, string_bytes, Some};
 ghost use Rattle.std.specs.List.{find};
-ghost use Rattle.scp_types.specs.declared.limits.TheConstants.{NODE_LIMIT};
-ghost use Rattle.scp_xdr.specs.Kind.{Fits};
-ghost use Rattle.scp_quorum.specs.QuorumKind.{set_kind, set_value};
-ghost use Rattle.scp_quorum.specs.QuorumTree.{QuorumTree};
-ghost use Rattle.scp_wire.specs.Connections.{same_node};
+ghost use Rattle.scp_slot.specs.scp_types.specs.declared.limits.TheConstants.{NODE_LIMIT};
+ghost use Rattle.scp_slot.specs.scp_xdr.specs.Kind.{Fits};
+ghost use Rattle.scp_slot.specs.scp_quorum.specs.QuorumKind.{set_kind, set_value};
+ghost use Rattle.scp_slot.specs.scp_quorum.specs.QuorumTree.{QuorumTree};
+ghost use Rattle.scp_script.specs.scp_wire.specs.Connections.{same_node};
 ghost use Rattle.scp_script.specs.Script.{node_count, AreAdmitted};
 ghost use Rattle.scp_script.specs.Nodes.{NamesNodes, numbers, set_at};
 ghost use Rattle.scp_stand_slot.specs.NodeNames.{Naming};
 ghost use Rattle.scp_stand_slot.specs.Names.{node_name, text_at, name_by, name_of, set_in_bytes, set_sent, sets_of, AreNamesOf, AreNames};
 
-use scp_quorum::QuorumSet;
+use scp_script::below::wire::{Message, decode};
 use scp_script::{Command, set_of_node};
+use scp_slot::below::quorum::QuorumSet;
+use scp_slot::below::types::{Fault, Hash, NodeId};
 use scp_text::{Term, text_of_set};
-use scp_types::{Fault, Hash, NodeId};
-use scp_wire::{Message, decode};
 use std::alloc::Global;
 use std::collections::BTreeMap;
 use std::marker::Model;

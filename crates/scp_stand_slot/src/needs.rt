@@ -5,9 +5,9 @@ ghost use Rattle.scp_stand_slot.specs.Machine.{step_word, claim_text, who_text, 
 
 use crate::names::Names;
 use crate::texts::{write_counted, write_nodes, write_slot_words, write_value};
+use scp_slot::below::types::{Fault, NodeId};
+use scp_slot::below::vote::Claim;
 use scp_stand_needs::{Need, Step};
-use scp_types::{Fault, NodeId};
-use scp_vote::Claim;
 
 fn word_of(step: Step) -> &'static str
     ensures { result.now ≡ step_word step }

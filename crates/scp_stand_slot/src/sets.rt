@@ -5,8 +5,8 @@ ghost use Rattle.scp_stand_slot.specs.Names.{set_named};
 
 use crate::names::Names;
 use crate::texts::write_each_node;
-use scp_quorum::QuorumSet;
-use scp_types::Fault;
+use scp_slot::below::quorum::QuorumSet;
+use scp_slot::below::types::Fault;
 
 /// Adds a threshold, and the bracket that opens behind it.
 fn write_threshold(out: &mut String, threshold: u32) -> Result<(), Fault>

@@ -3,14 +3,14 @@ ghost use Rattle.std.specs.Prelude.{◌≡◌, ◌++◌, ◌∷◌, [], OnOk, Is
 ghost use Rattle.std.specs.Fmt.{decimal};
 ghost use Rattle.scp_text.specs.Pieces.{listed};
 ghost use Rattle.scp_text.specs.Messages.{optional_text, signature_words, nominate_words, prepare_words, confirm_words, externalize_words, pledges_words};
-ghost use Rattle.scp_envelope.specs.Kinds.{set_hash_of};
+ghost use Rattle.scp_slot.specs.scp_envelope.specs.Kinds.{set_hash_of};
 ghost use Rattle.scp_stand_slot.specs.Names.{node_name, name_of, with_names, said_as, statement_text};
 
 use crate::names::Names;
 use crate::texts::{write_ballot, write_values};
-use scp_envelope::{Confirm, Envelope, Externalize, Nominate, Pledges, Prepare};
+use scp_slot::below::envelope::{Confirm, Envelope, Externalize, Nominate, Pledges, Prepare};
+use scp_slot::below::types::{Ballot, Fault, Hash, NodeId, Slot};
 use scp_text::Term;
-use scp_types::{Ballot, Fault, Hash, NodeId, Slot};
 
 /// Adds a space and a term.
 fn write_term<T: Term>(out: &mut String, term: &T) -> Result<(), Fault>

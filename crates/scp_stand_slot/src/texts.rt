@@ -6,8 +6,8 @@ ghost use Rattle.scp_text.specs.Messages.{ballot_text, values_text};
 ghost use Rattle.scp_stand_slot.specs.Names.{node_name, nodes_text, slot_words};
 
 use crate::names::Names;
+use scp_slot::below::types::{Ballot, Fault, NodeId, Value};
 use scp_text::Term;
-use scp_types::{Ballot, Fault, NodeId, Value};
 
 /// Adds texts, with commas between them.
 fn write_all<T: Term>(out: &mut String, terms: &[T]) -> Result<(), Fault>

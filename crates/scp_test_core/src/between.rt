@@ -3,9 +3,9 @@
 use crate::parts::Act::*;
 use crate::parts::Seen::*;
 use crate::parts::{Act, CONN, MANY, ONE, STAGES, Said, is_so, outcome, reply, settle};
+use scp_core::below::types::{ConnId, Fault};
+use scp_core::below::wire::encode;
 use scp_core::{Capacities, Cause, Event, Fate, Node};
-use scp_types::{ConnId, Fault};
-use scp_wire::encode;
 use std::alloc::Global;
 use std::process::Abort;
 use std::test::*;

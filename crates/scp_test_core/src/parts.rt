@@ -1,14 +1,16 @@
 //! Events of a node, and nodes that are lent to a test's closure.
 use Act::*;
 use Seen::*;
+use scp_core::below::envelope::{
+    Envelope, Externalize, Nominate, Pledges, Signature, Statement, ValueList,
+};
+use scp_core::below::quorum::QuorumSet;
+use scp_core::below::types::{Ballot, ConnId, Fault, NodeId, SharedValue, Slot, Value};
+use scp_core::below::wire::{BoxedEnvelope, Message, encode};
 use scp_core::{
     Bytes, Capacities, Cause, Command, Config, DropCause, Event, Fate, KvDriver, Node, Peers,
     Reply, Verdict,
 };
-use scp_envelope::{Envelope, Externalize, Nominate, Pledges, Signature, Statement, ValueList};
-use scp_quorum::QuorumSet;
-use scp_types::{Ballot, ConnId, Fault, NodeId, SharedValue, Slot, Value};
-use scp_wire::{BoxedEnvelope, Message, encode};
 use std::alloc::Global;
 
 /// What happens at node 1, whose link 0 is from node 2. A quorum set goes by its number: 1 is the node's own, 2 of both nodes; 2 is 1 of node

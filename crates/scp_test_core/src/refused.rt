@@ -3,8 +3,8 @@
 use crate::parts::Act::*;
 use crate::parts::Seen::*;
 use crate::parts::{Act, MANY, Said, Seen, is_failed, is_so, outcome, play};
+use scp_core::below::types::Fault;
 use scp_core::{Fate, Node, Verdict};
-use scp_types::Fault;
 use std::alloc::Global;
 use std::process::Abort;
 use std::test::*;

@@ -3,8 +3,8 @@ use crate::parts::Act::*;
 use crate::parts::{
     Act, MANY, ME, ONE, PEER, Said, bring, config, is_failed, is_so, kind_of, play, reply, round,
 };
+use scp_core::below::types::{Fault, NodeId};
 use scp_core::{Capacities, Event, KvDriver, Node, Reply, run};
-use scp_types::{Fault, NodeId};
 use std::alloc::Global;
 use std::process::Abort;
 use std::test::*;

@@ -2,8 +2,8 @@
 use crate::parts::Act::*;
 use crate::parts::Seen::*;
 use crate::parts::{Act, CONN, MANY, bring, is_so, outcome};
+use scp_core::below::types::Fault;
 use scp_core::{CommandFate, Node, Verdict};
-use scp_types::Fault;
 use std::alloc::Global;
 use std::process::Abort;
 use std::test::*;

@@ -3,8 +3,8 @@ mod claimed;
 mod copied;
 mod ordered;
 
+use scp_envelope::below::types::{Ballot, Fault, Hash, NodeId, SharedValue, Slot, Value};
 use scp_envelope::*;
-use scp_types::{Ballot, Fault, Hash, NodeId, SharedValue, Slot, Value};
 use std::alloc::Global;
 
 type Short = (u32, u8);

@@ -1,7 +1,7 @@
 //! Exactly what fits a link is written.
 use crate::short::{Short, message};
-use scp_types::Fault;
-use scp_wire::{FittingMessage, encode};
+use scp_outbox::below::types::Fault;
+use scp_outbox::below::wire::{FittingMessage, encode};
 use std::alloc::Global;
 use std::process::Abort;
 use std::test::*;

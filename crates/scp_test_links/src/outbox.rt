@@ -1,9 +1,9 @@
 //! What an outbox gives, and when.
 use crate::short::{Short, message};
-use scp_envelope::Pledges;
+use scp_outbox::below::envelope::Pledges;
+use scp_outbox::below::types::{Fault, Hash};
+use scp_outbox::below::wire::{BoxedEnvelope, FittingMessage, Message};
 use scp_outbox::{Mark, Out, Outbox, Outboxes};
-use scp_types::{Fault, Hash};
-use scp_wire::{BoxedEnvelope, FittingMessage, Message};
 use std::alloc::Global;
 use std::process::Abort;
 use std::test::*;

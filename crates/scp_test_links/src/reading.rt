@@ -1,7 +1,7 @@
 //! What the items of one link are read as behind its last number. examples/stages.calls shows what they are read as before.
 use crate::bytes::*;
-use scp_types::{CARRIED_LIMIT, ConnId, Fault, NodeId};
-use scp_wire::{Bytes, Carried, Cause, Inbound, LinkItem, LinkReader, Message};
+use scp_outbox::below::types::{CARRIED_LIMIT, ConnId, Fault, NodeId};
+use scp_outbox::below::wire::{Bytes, Carried, Cause, Inbound, LinkItem, LinkReader, Message};
 use std::alloc::Global;
 use std::process::Abort;
 use std::test::*;

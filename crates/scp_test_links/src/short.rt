@@ -1,8 +1,10 @@
 //! Messages of node 1, in short.
-use scp_envelope::{Envelope, Nominate, Pledges, Prepare, Signature, Statement, ValueList};
-use scp_quorum::QuorumSet;
-use scp_types::{Ballot, Fault, Hash, NodeId, SharedValue, Slot, Value};
-use scp_wire::{BoxedEnvelope, Message};
+use scp_outbox::below::envelope::{
+    Envelope, Nominate, Pledges, Prepare, Signature, Statement, ValueList,
+};
+use scp_outbox::below::quorum::QuorumSet;
+use scp_outbox::below::types::{Ballot, Fault, Hash, NodeId, SharedValue, Slot, Value};
+use scp_outbox::below::wire::{BoxedEnvelope, Message};
 use std::alloc::Global;
 
 /// A message. Slots are given by their numbers, and values by their number of bytes.

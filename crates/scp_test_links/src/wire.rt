@@ -1,8 +1,8 @@
 //! Messages as bytes and back: calls that are refused and made again, what is carried, what is a side message, and what fills a message.
 use crate::bytes::*;
-use scp_envelope::{Envelope, Pledges};
-use scp_types::{Fault, Hash, NodeId, Slot};
-use scp_wire::{Bytes, FittingMessage, Message, decode, encode, is_side_message};
+use scp_outbox::below::envelope::{Envelope, Pledges};
+use scp_outbox::below::types::{Fault, Hash, NodeId, Slot};
+use scp_outbox::below::wire::{Bytes, FittingMessage, Message, decode, encode, is_side_message};
 use std::alloc::Global;
 use std::process::Abort;
 use std::test::*;

@@ -4,8 +4,8 @@ mod devices;
 mod reports;
 mod threads;
 
-use scp_line::{line_of_fault, status};
-use scp_types::{Fault, Stage};
+use scp_live_process::below::line::{line_of_fault, status};
+use scp_live_process::below::types::{Fault, Stage};
 use std::process::Abort;
 use std::test::Fail;
 

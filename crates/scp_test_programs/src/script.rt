@@ -1,6 +1,6 @@
 //! What a script is read as. Scripts that are refused, and at which line, are in examples/scripts.calls.
-use scp_script::{Command, capacities_of, count_of_nodes, parse};
-use scp_types::Capacities;
+use scp_live_process::below::script::{Command, capacities_of, count_of_nodes, parse};
+use scp_live_process::below::types::Capacities;
 use std::process::Abort;
 use std::test::Fail;
 

@@ -3,9 +3,9 @@ ghost use Rattle.std.specs.Prelude.{◌≡◌, IfOk};
 
 use crate::parts::{TWO, conn, value};
 use scp_apply::Applier;
-use scp_driver::KvDriver;
-use scp_ledger::{Decision, Onward, Origin, SharedDecision};
-use scp_types::{Fault, Seq, Slot};
+use scp_apply::below::driver::KvDriver;
+use scp_apply::below::ledger::{Decision, Onward, Origin, SharedDecision};
+use scp_apply::below::types::{Fault, Seq, Slot};
 use std::alloc::Global;
 use std::process::Abort;
 use std::test::*;

@@ -3,12 +3,12 @@ use crate::parts::{FOUR, ME, THREE, TWO, carried, conn, hash, own, says, stage, 
 use Act::*;
 use On::*;
 use Verdict::*;
-use scp_driver::KvDriver;
-use scp_envelope::{Externalize, Pledges};
-use scp_ledger::{CommandFate, Ledger, Onward, Origin, SharedDecision, Verdict};
-use scp_pending::{DropCause, Pending, Ready};
-use scp_types::{Ballot, Fault, NodeId, Seq, SharedValue, Slot};
-use scp_wire::{Cause, Command, Inbound, Message};
+use scp_apply::below::driver::KvDriver;
+use scp_apply::below::envelope::{Externalize, Pledges};
+use scp_apply::below::ledger::{CommandFate, Ledger, Onward, Origin, SharedDecision, Verdict};
+use scp_apply::below::pending::{DropCause, Pending, Ready};
+use scp_apply::below::types::{Ballot, Fault, NodeId, Seq, SharedValue, Slot};
+use scp_apply::below::wire::{Cause, Command, Inbound, Message};
 use std::alloc::Global;
 use std::process::Abort;
 use std::test::*;

@@ -1,9 +1,9 @@
 //! Nodes, quorum sets and messages.
-use scp_envelope::{Envelope, Pledges, Signature, Statement};
-use scp_pending::Pending;
-use scp_quorum::{QuorumSet, SaneSet};
-use scp_types::{ConnId, Fault, Hash, NodeId, Seq, Slot, Value};
-use scp_wire::{BoxedEnvelope, Carried, FittingMessage, Inbound, Message};
+use scp_apply::below::envelope::{Envelope, Pledges, Signature, Statement};
+use scp_apply::below::pending::Pending;
+use scp_apply::below::quorum::{QuorumSet, SaneSet};
+use scp_apply::below::types::{ConnId, Fault, Hash, NodeId, Seq, Slot, Value};
+use scp_apply::below::wire::{BoxedEnvelope, Carried, FittingMessage, Inbound, Message};
 use std::alloc::Global;
 use std::sync::Arc;
 

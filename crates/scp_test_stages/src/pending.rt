@@ -1,10 +1,10 @@
 //! Messages that are held, and connections that wait.
 use crate::parts::{ME, THREE, TWO, carried, hash, says, set, stage};
 use Event::*;
-use scp_envelope::{Nominate, Pledges, ValueList};
-use scp_pending::Pending;
-use scp_types::{ConnId, Fault, NodeId};
-use scp_wire::{Cause, Command, Inbound, Message, SideMessage};
+use scp_apply::below::envelope::{Nominate, Pledges, ValueList};
+use scp_apply::below::pending::Pending;
+use scp_apply::below::types::{ConnId, Fault, NodeId};
+use scp_apply::below::wire::{Cause, Command, Inbound, Message, SideMessage};
 use std::alloc::Global;
 use std::process::Abort;
 use std::test::*;

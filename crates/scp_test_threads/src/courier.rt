@@ -1,12 +1,12 @@
 //! A courier between an outbox and a link, whose reader is in another thread, or gone.
 ghost use Rattle.std.specs.Prelude.{◌≡◌, [], IfOk};
 
-use scp_ends::{Gate, Item, LinkRx, Moment, Place, link};
-use scp_outbox::Mark;
-use scp_shared_outbox::{Marker, Putter, Taker, make};
-use scp_types::{Fault, NodeId};
-use scp_wire::{FittingMessage, LinkItem, decode};
 use scp_workers::Courier;
+use scp_workers::below::ends::{Gate, Item, LinkRx, Moment, Place, link};
+use scp_workers::below::outbox::Mark;
+use scp_workers::below::shared_outbox::{Marker, Putter, Taker, make};
+use scp_workers::below::types::{Fault, NodeId};
+use scp_workers::below::wire::{FittingMessage, LinkItem, decode};
 use std::alloc::Global;
 use std::sync::{Mutex, Wait};
 use std::test::*;

@@ -1,9 +1,11 @@
 ghost use Rattle.std.specs.Prelude.{◌≡◌, ◌∷◌, [], IfOk};
 
-use scp_outbox::{Mark, Out};
-use scp_shared_outbox::{Marker, Putter, Taker, ends_cross_threads, make, take_back};
-use scp_types::{Fault, Hash};
-use scp_wire::{FittingMessage, Message};
+use scp_workers::below::outbox::{Mark, Out};
+use scp_workers::below::shared_outbox::{
+    Marker, Putter, Taker, ends_cross_threads, make, take_back,
+};
+use scp_workers::below::types::{Fault, Hash};
+use scp_workers::below::wire::{FittingMessage, Message};
 use std::alloc::{AllocError, Global};
 use std::sync::Wait;
 use std::test::*;

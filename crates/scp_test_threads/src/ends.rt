@@ -1,6 +1,6 @@
-use scp_ends::{InboxRx, InboxTx, Item, LinkRx, LinkTx, NotSent, inbox, link};
-use scp_types::{ConnId, Fault, NodeId};
-use scp_wire::{Bytes, Cause, Inbound, LinkItem};
+use scp_workers::below::ends::{InboxRx, InboxTx, Item, LinkRx, LinkTx, NotSent, inbox, link};
+use scp_workers::below::types::{ConnId, Fault, NodeId};
+use scp_workers::below::wire::{Bytes, Cause, Inbound, LinkItem};
 use std::alloc::Global;
 use std::sync::Wait;
 use std::test::*;

@@ -1,6 +1,8 @@
-use scp_ends::{Gate, InboxRx, Item, LinkTx, Moment, Open, Place, Stage, inbox, link};
-use scp_types::{Fault, NodeId};
-use scp_wire::{Bytes, Cause, Inbound, Message};
+use scp_workers::below::ends::{
+    Gate, InboxRx, Item, LinkTx, Moment, Open, Place, Stage, inbox, link,
+};
+use scp_workers::below::types::{Fault, NodeId};
+use scp_workers::below::wire::{Bytes, Cause, Inbound, Message};
 use scp_workers::{ReaderWorker, reader};
 use std::alloc::Global;
 use std::process::Abort;

@@ -1,6 +1,6 @@
 use crate::twice::{is_right_or_out_of_memory, value_of};
 use scp_kv::*;
-use scp_types::{Fault, Value};
+use scp_quorum::below::types::{Fault, Value};
 use std::alloc::Global;
 use std::process::Abort;
 use std::test::*;

@@ -2,8 +2,8 @@ mod greatest;
 mod random;
 
 use crate::twice::is_right_or_out_of_memory;
+use scp_quorum::below::types::{Fault, Hash, NodeId};
 use scp_quorum::*;
-use scp_types::{Fault, Hash, NodeId};
 use sha2::{Digest, Sha256};
 use std::alloc::Global;
 use std::collections::BTreeSet;

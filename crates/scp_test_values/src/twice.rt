@@ -1,6 +1,6 @@
 //! What the tests share: values and ballots, and calls that are made twice. The first call is right or out of memory; the second is right as
 //! if there had been no first. If the second is out of memory, the test ends with that.
-use scp_types::{Ballot, Fault, SharedValue, Value};
+use scp_quorum::below::types::{Ballot, Fault, SharedValue, Value};
 use std::alloc::Global;
 
 /// Whether a first answer is right, or memory ran out.

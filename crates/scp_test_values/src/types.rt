@@ -1,5 +1,5 @@
 use crate::twice::{ballot_of, is_right_or_out_of_memory};
-use scp_types::*;
+use scp_quorum::below::types::*;
 use std::alloc::Global;
 use std::test::*;
 

@@ -1,8 +1,8 @@
 mod items;
 
 use crate::twice::{ballot_of, is_right_or_out_of_memory, value_of};
-use scp_types::{Fault, Hash, NodeId, Value};
-use scp_xdr::*;
+use scp_quorum::below::types::{Fault, Hash, NodeId, Value};
+use scp_quorum::below::xdr::*;
 use std::alloc::Global;
 use std::test::*;
 

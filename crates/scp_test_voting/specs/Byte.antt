@@ -2,8 +2,8 @@
 use Rattle.std.specs.Prelude.{◌≡◌, ◌≢◌, ◌≤◌, ℕ, ◌-◌, ◌%◌, nat_le, List, [], ◌∷◌, length, Bool, true, false, Option, Some, None, All, IfSome, refl}
 use Rattle.std.proofs.lemmas.Bool.{leb-true}
 use Rattle.std.proofs.lemmas.List.Elements.{All-head}
-use Rattle.scp_driver.specs.declared.driver.Level.{Level}
-use Rattle.scp_driver.specs.declared.driver.Level.TheVariants.{FullyValidated, MaybeValid, Invalid}
+use Rattle.scp_nominate.specs.scp_driver.specs.declared.driver.Level.{Level}
+use Rattle.scp_nominate.specs.scp_driver.specs.declared.driver.Level.TheVariants.{FullyValidated, MaybeValid, Invalid}
 
 -- it may be valid if it is within the limit
 abbrev pub level_within : Bool → Level

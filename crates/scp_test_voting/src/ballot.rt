@@ -1,6 +1,6 @@
 use crate::short::{Said, envelope, set};
 use scp_ballot::Balloter;
-use scp_types::{NodeId, Slot};
+use scp_nominate::below::types::{NodeId, Slot};
 use std::process::Abort;
 use std::test::*;
 

@@ -1,8 +1,8 @@
 //! A driver whose values are one byte. It knows values that may be valid, and extracts something from them.
 ghost use Rattle.scp_test_voting.specs.Byte.{byte_level, first_byte, first_value, turn, first_byte_full, first_value_full, byte_is_short};
 
-use scp_driver::{Driver, Level};
-use scp_types::{Fault, Slot, Value};
+use scp_nominate::below::driver::{Driver, Level};
+use scp_nominate::below::types::{Fault, Slot, Value};
 use std::alloc::Global;
 
 /// The most bytes of a value.

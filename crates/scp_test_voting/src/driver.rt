@@ -1,8 +1,8 @@
 //! Drivers, by the trait alone.
 use crate::byte_driver::ByteDriver;
 use crate::short::value;
-use scp_driver::{Driver, KvDriver, Level, place_of};
-use scp_types::{Fault, Slot};
+use scp_nominate::below::driver::{Driver, KvDriver, Level, place_of};
+use scp_nominate::below::types::{Fault, Slot};
 use std::alloc::Global;
 use std::process::Abort;
 use std::test::Fail;

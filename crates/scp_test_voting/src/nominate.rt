@@ -4,11 +4,11 @@ ghost use Rattle.scp_nominate.specs.Nomination.{nomination, IsSound};
 
 use crate::byte_driver::ByteDriver;
 use crate::short::{Said, ShortSet, Values, envelope, set, value};
-use scp_driver::Driver;
-use scp_envelope::{Envelope, Pledges};
+use scp_nominate::below::driver::Driver;
+use scp_nominate::below::envelope::{Envelope, Pledges};
+use scp_nominate::below::types::{Fault, Hash, NodeId, Slot, Value};
+use scp_nominate::below::vote::{StatementKind, kind_of_pledges};
 use scp_nominate::{Nominated, Nominator};
-use scp_types::{Fault, Hash, NodeId, Slot, Value};
-use scp_vote::{StatementKind, kind_of_pledges};
 use std::alloc::Global;
 use std::process::Abort;
 use std::test::*;

@@ -1,8 +1,8 @@
 //! Statements in short, all of slot 7. A node is one byte; a ballot is its counter and its
 //! value of one byte; a quorum set is its threshold and its nodes.
-use scp_envelope::*;
-use scp_quorum::{QuorumSet, SaneSet};
-use scp_types::{Ballot, Fault, Hash, NodeId, SharedValue, Slot, Value};
+use scp_nominate::below::envelope::*;
+use scp_nominate::below::quorum::{QuorumSet, SaneSet};
+use scp_nominate::below::types::{Ballot, Fault, Hash, NodeId, SharedValue, Slot, Value};
 use std::alloc::Global;
 use std::sync::Arc;
 

@@ -1,7 +1,7 @@
 //! What statements claim; whose statements count on a board; and which claims are accepted and confirmed.
 use crate::short::{Said, ShortSet, ballot, envelope, set, value};
-use scp_types::{Fault, NodeId, SharedValue, Slot};
-use scp_vote::*;
+use scp_nominate::below::types::{Fault, NodeId, SharedValue, Slot};
+use scp_nominate::below::vote::*;
 use std::alloc::Global;
 use std::collections::BTreeSet;
 use std::process::Abort;

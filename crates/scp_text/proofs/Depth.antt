@@ -2,10 +2,10 @@
 use Rattle.std.proofs.Common.{◌≡◌, ℕ, zero, suc, ◌+◌, ◌≤◌, Bool, true, false, ◌&&◌, List, [], ◌∷◌, length, Option, Some, None, refl, sym, ap, subst, arith}
 use Rattle.std.specs.Prelude.{nat_le, if◌then◌else◌, max}
 use Rattle.std.specs.List.{AllByRecursion}
-use Rattle.scp_types.specs.declared.names.NodeId.{NodeId}
-use Rattle.scp_xdr.specs.Tree.{Tree, tree_of, in_a_row}
-use Rattle.scp_quorum.specs.QuorumTree.{Level, QuorumTree}
-use Rattle.scp_quorum.specs.Sane.{levels}
+use Rattle.scp_kv.specs.scp_types.specs.declared.names.NodeId.{NodeId}
+use Rattle.scp_kv.specs.scp_xdr.specs.Tree.{Tree, tree_of, in_a_row}
+use Rattle.scp_wire.specs.scp_quorum.specs.QuorumTree.{Level, QuorumTree}
+use Rattle.scp_wire.specs.scp_quorum.specs.Sane.{levels}
 use Rattle.scp_text.specs.Pieces.{◌>>=◌, all_of}
 use Rattle.scp_text.specs.Sets.{node_in, nodes_first, sets_after, level_in, within, set_with, inner_in}
 use Rattle.scp_text.proofs.Fitting.{bind_some, all_fit}

@@ -4,13 +4,13 @@ use Rattle.std.specs.Prelude.{codes, option_map, nat_lt}
 use Rattle.std.specs.List.{AllByRecursion, list_all}
 use Rattle.std.specs.Fmt.{decimal}
 use Rattle.hex.specs.Hex.{encode_lower}
-use Rattle.scp_types.specs.declared.ballot.Ballot.{Ballot}
-use Rattle.scp_types.specs.declared.names.NodeId.{NodeId}
-use Rattle.scp_types.specs.declared.names.Hash.{Hash}
-use Rattle.scp_types.specs.declared.names.Slot.{Slot}
-use Rattle.scp_xdr.specs.Kind.{Values, Fits, optional}
-use Rattle.scp_xdr.specs.Shared.{value_kind, ballot_kind, ballot_value}
-use Rattle.scp_envelope.specs.Kinds.{list_kind}
+use Rattle.scp_kv.specs.scp_types.specs.declared.ballot.Ballot.{Ballot}
+use Rattle.scp_kv.specs.scp_types.specs.declared.names.NodeId.{NodeId}
+use Rattle.scp_kv.specs.scp_types.specs.declared.names.Hash.{Hash}
+use Rattle.scp_kv.specs.scp_types.specs.declared.names.Slot.{Slot}
+use Rattle.scp_kv.specs.scp_xdr.specs.Kind.{Values, Fits, optional}
+use Rattle.scp_kv.specs.scp_xdr.specs.Shared.{value_kind, ballot_kind, ballot_value}
+use Rattle.scp_wire.specs.scp_envelope.specs.Kinds.{list_kind}
 use Rattle.scp_text.specs.Pieces.{same, listed, bracketed, inside, items_in, all_of}
 use Rattle.scp_text.specs.Values.{value_text, value_in}
 use Rattle.scp_text.specs.Sets.{counter_in}

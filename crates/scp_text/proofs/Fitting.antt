@@ -8,13 +8,13 @@ use Rattle.std.proofs.lemmas.List.{length-map}
 use Rattle.hex.specs.Hex.{decode_sized}
 use Rattle.hex.specs.declared.error.FromHexError.{FromHexError}
 use Rattle.hex.proofs.HexLemmas.{decode_sized-ok, decode_sized-twice, decode_of-ok}
-use Rattle.scp_types.specs.declared.fault.Fault.{Fault}
-use Rattle.scp_types.specs.declared.names.NodeId.{NodeId}
-use Rattle.scp_xdr.specs.Tree.{Trees, no_trees, tree_then, Tree, tree_of, in_a_row, row_len, row_map}
-use Rattle.scp_xdr.specs.Kind.{Fits, RowFits, TreeFits, limit_at}
-use Rattle.scp_xdr.specs.Shared.{node_kind, node_value}
-use Rattle.scp_quorum.specs.QuorumTree.{Level, QuorumTree}
-use Rattle.scp_quorum.specs.QuorumKind.{level_kind, level_value, set_kind, set_value}
+use Rattle.scp_kv.specs.scp_types.specs.declared.fault.Fault.{Fault}
+use Rattle.scp_kv.specs.scp_types.specs.declared.names.NodeId.{NodeId}
+use Rattle.scp_kv.specs.scp_xdr.specs.Tree.{Trees, no_trees, tree_then, Tree, tree_of, in_a_row, row_len, row_map}
+use Rattle.scp_kv.specs.scp_xdr.specs.Kind.{Fits, RowFits, TreeFits, limit_at}
+use Rattle.scp_kv.specs.scp_xdr.specs.Shared.{node_kind, node_value}
+use Rattle.scp_wire.specs.scp_quorum.specs.QuorumTree.{Level, QuorumTree}
+use Rattle.scp_wire.specs.scp_quorum.specs.QuorumKind.{level_kind, level_value, set_kind, set_value}
 use Rattle.scp_text.specs.Pieces.{◌>>=◌, all_of, inside, items_in, number_in}
 use Rattle.scp_text.specs.Sets.{id_in, numbered, node_from, node_in, counter_in, nodes_first, sets_after, cut, level_in, within, set_with, inner_in, set_in}
 use Rattle.scp_text.proofs.Items.{and_both}

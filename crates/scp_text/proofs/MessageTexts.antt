@@ -4,28 +4,28 @@ use Rattle.std.specs.Prelude.{codes}
 use Rattle.std.specs.List.{AllByRecursion, list_all}
 use Rattle.std.specs.Fmt.{decimal}
 use Rattle.hex.specs.Hex.{encode_lower}
-use Rattle.scp_types.specs.declared.names.NodeId.{NodeId}
-use Rattle.scp_types.specs.declared.names.Hash.{Hash}
-use Rattle.scp_types.specs.declared.names.Slot.{Slot}
-use Rattle.scp_xdr.specs.Kind.{Values, Fits, spelling}
-use Rattle.scp_envelope.specs.declared.statement.Prepare.{Prepare}
-use Rattle.scp_envelope.specs.declared.statement.Confirm.{Confirm}
-use Rattle.scp_envelope.specs.declared.statement.Externalize.{Externalize}
-use Rattle.scp_envelope.specs.declared.statement.Nominate.{Nominate}
-use Rattle.scp_envelope.specs.declared.statement.Pledges.{Pledges}
-use Rattle.scp_envelope.specs.declared.statement.Pledges.TheVariants.{Prepare as Preparing, Confirm as Confirming, Externalize as Externalizing, Nominate as Nominating}
-use Rattle.scp_envelope.specs.Kinds.{pledges_kind, pledges_value}
+use Rattle.scp_kv.specs.scp_types.specs.declared.names.NodeId.{NodeId}
+use Rattle.scp_kv.specs.scp_types.specs.declared.names.Hash.{Hash}
+use Rattle.scp_kv.specs.scp_types.specs.declared.names.Slot.{Slot}
+use Rattle.scp_kv.specs.scp_xdr.specs.Kind.{Values, Fits, spelling}
+use Rattle.scp_wire.specs.scp_envelope.specs.declared.statement.Prepare.{Prepare}
+use Rattle.scp_wire.specs.scp_envelope.specs.declared.statement.Confirm.{Confirm}
+use Rattle.scp_wire.specs.scp_envelope.specs.declared.statement.Externalize.{Externalize}
+use Rattle.scp_wire.specs.scp_envelope.specs.declared.statement.Nominate.{Nominate}
+use Rattle.scp_wire.specs.scp_envelope.specs.declared.statement.Pledges.{Pledges}
+use Rattle.scp_wire.specs.scp_envelope.specs.declared.statement.Pledges.TheVariants.{Prepare as Preparing, Confirm as Confirming, Externalize as Externalizing, Nominate as Nominating}
+use Rattle.scp_wire.specs.scp_envelope.specs.Kinds.{pledges_kind, pledges_value}
 use Rattle.scp_wire.specs.declared.message.Message.{Message}
 use Rattle.scp_wire.specs.declared.message.Message.TheVariants.{Envelope as OfEnvelope, GetSet, Set, NoSet, GetRecord, Record, Records}
 use Rattle.scp_wire.specs.Message.{message_kind, message_value, SpellsMessage}
 use Rattle.scp_text.specs.Pieces.{listed, bracketed}
 use Rattle.scp_text.specs.Messages.{words_with, signature_words, nominate_words, prepare_words, confirm_words, externalize_words, pledges_words, at, ended, signature_at, nominate_in, prepare_in, confirm_in, externalize_in, envelope_in, get_set_in, no_set_in, the_set_in, get_record_in, record_in, message_in, message_words, message_text, words_of}
 use Rattle.std.proofs.lemmas.List.{length-map}
-use Rattle.scp_xdr.specs.Tree.{Trees, no_trees, tree_then, row_len, row_map}
-use Rattle.scp_xdr.specs.Kind.{RowFits, limit_at}
-use Rattle.scp_xdr.specs.Shared.{node_kind, node_value}
-use Rattle.scp_quorum.specs.QuorumTree.{Level, QuorumTree}
-use Rattle.scp_quorum.specs.QuorumKind.{level_kind, level_value, set_kind, set_value}
+use Rattle.scp_kv.specs.scp_xdr.specs.Tree.{Trees, no_trees, tree_then, row_len, row_map}
+use Rattle.scp_kv.specs.scp_xdr.specs.Kind.{RowFits, limit_at}
+use Rattle.scp_kv.specs.scp_xdr.specs.Shared.{node_kind, node_value}
+use Rattle.scp_wire.specs.scp_quorum.specs.QuorumTree.{Level, QuorumTree}
+use Rattle.scp_wire.specs.scp_quorum.specs.QuorumKind.{level_kind, level_value, set_kind, set_value}
 use Rattle.scp_text.specs.Sets.{row_texts, set_text, set_in}
 use Rattle.scp_text.proofs.Items.{IsItem, IsOpen}
 use Rattle.scp_text.proofs.Records.{get_record_again, record_again, records_again}

@@ -2,7 +2,7 @@
 use Rattle.std.proofs.Common.{◌≡◌, ℕ, zero, suc, ◌+◌, ◌≤◌, Bool, true, false, List, [], ◌∷◌, Option, Some, None, Result, Ok, Err, refl, sym, subst, arith}
 use Rattle.std.specs.Prelude.{if◌then◌else◌, slice_get, codes}
 use Rattle.std.specs.Option.{unwrap_or}
-use Rattle.scp_envelope.specs.declared.statement.Pledges.{Pledges}
+use Rattle.scp_wire.specs.scp_envelope.specs.declared.statement.Pledges.{Pledges}
 use Rattle.scp_wire.specs.declared.message.Message.{Message}
 use Rattle.scp_device.specs.declared.bad.BadWord.{BadWord}
 use Rattle.scp_device.specs.declared.bad.Expected.{Expected}

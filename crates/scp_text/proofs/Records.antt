@@ -3,7 +3,7 @@ use Rattle.std.proofs.Common.{◌≡◌, ℕ, ◌<◌, ◌≤◌, ◌^◌, true,
 use Rattle.std.specs.Prelude.{codes}
 use Rattle.std.specs.Fmt.{decimal}
 use Rattle.std.specs.List.{AllByRecursion, list_all}
-use Rattle.scp_types.specs.declared.names.Slot.{Slot}
+use Rattle.scp_kv.specs.scp_types.specs.declared.names.Slot.{Slot}
 use Rattle.scp_wire.specs.declared.message.Message.TheVariants.{GetRecord, Record, Records}
 use Rattle.scp_text.specs.Values.{value_text, value_in}
 use Rattle.scp_text.specs.Messages.{at, ended, slot_in, record_in, records_in, get_record_in, message_in, message_words}

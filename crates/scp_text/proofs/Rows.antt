@@ -5,11 +5,11 @@ use Rattle.std.specs.List.{position_or_len}
 use Rattle.std.proofs.lemmas.List.Sums.{position_or_len_is}
 use Rattle.std.proofs.lemmas.List.{take_rest}
 use Rattle.std.proofs.lemmas.Bool.Decides.{nat_tests}
-use Rattle.scp_types.specs.declared.fault.Fault.{Fault}
+use Rattle.scp_kv.specs.scp_types.specs.declared.fault.Fault.{Fault}
 use Rattle.std.specs.Fmt.{decimal}
-use Rattle.scp_types.specs.declared.names.NodeId.{NodeId}
-use Rattle.scp_xdr.specs.Tree.{Tree, Trees, in_a_row}
-use Rattle.scp_quorum.specs.QuorumTree.{Level, QuorumTree}
+use Rattle.scp_kv.specs.scp_types.specs.declared.names.NodeId.{NodeId}
+use Rattle.scp_kv.specs.scp_xdr.specs.Tree.{Tree, Trees, in_a_row}
+use Rattle.scp_wire.specs.scp_quorum.specs.QuorumTree.{Level, QuorumTree}
 use Rattle.scp_text.specs.Pieces.{listed, bracketed, all_of}
 use Rattle.scp_text.specs.Sets.{cut, set_with, inner_in, has_bracket, nodes_first, sets_after, node_text, level_text, row_texts, set_text}
 

@@ -6,10 +6,10 @@ use Rattle.std.specs.Fmt.{decimal}
 use Rattle.std.proofs.Math.Seq.{take-append_seam, drop-append-add}
 use Rattle.std.proofs.lemmas.Bool.Decides.{nat_tests}
 use Rattle.std.proofs.lemmas.List.{length-map}
-use Rattle.scp_types.specs.declared.names.NodeId.{NodeId}
-use Rattle.scp_xdr.specs.Tree.{Trees, no_trees, tree_then, Tree, tree_of, in_a_row, row_len}
-use Rattle.scp_xdr.specs.Kind.{limit_at}
-use Rattle.scp_quorum.specs.QuorumTree.{Level, QuorumTree}
+use Rattle.scp_kv.specs.scp_types.specs.declared.names.NodeId.{NodeId}
+use Rattle.scp_kv.specs.scp_xdr.specs.Tree.{Trees, no_trees, tree_then, Tree, tree_of, in_a_row, row_len}
+use Rattle.scp_kv.specs.scp_xdr.specs.Kind.{limit_at}
+use Rattle.scp_wire.specs.scp_quorum.specs.QuorumTree.{Level, QuorumTree}
 use Rattle.scp_text.specs.Pieces.{◌>>=◌, is_plain, listed, bracketed, inside, items_in, all_of, number_in}
 use Rattle.scp_text.specs.Sets.{node_text, level_text, row_texts, set_text, node_in, counter_in, has_bracket, nodes_first, sets_after, cut, level_in, set_with, inner_in, set_in}
 use Rattle.scp_text.proofs.Items.{IsItem, IsInner, IsOpen, item-append, bracketed_item, listed_inner, items_again, inside_again, all_again, and_both, plain_byte}

@@ -11,11 +11,11 @@ use Rattle.std.proofs.lemmas.List.{length-map}
 use Rattle.hex.specs.Hex.{encode_lower, decode_sized}
 use Rattle.hex.specs.declared.error.FromHexError.{FromHexError}
 use Rattle.hex.proofs.HexLemmas.{decode_sized-encode_lower, decode_sized-ok}
-use Rattle.scp_types.specs.declared.names.NodeId.{NodeId}
-use Rattle.scp_types.specs.declared.names.Hash.{Hash}
-use Rattle.scp_xdr.specs.Tree.{Trees, no_trees, tree_then, Tree, tree_of, in_a_row, row_len}
-use Rattle.scp_xdr.specs.Kind.{limit_at}
-use Rattle.scp_quorum.specs.QuorumTree.{Level, QuorumTree}
+use Rattle.scp_kv.specs.scp_types.specs.declared.names.NodeId.{NodeId}
+use Rattle.scp_kv.specs.scp_types.specs.declared.names.Hash.{Hash}
+use Rattle.scp_kv.specs.scp_xdr.specs.Tree.{Trees, no_trees, tree_then, Tree, tree_of, in_a_row, row_len}
+use Rattle.scp_kv.specs.scp_xdr.specs.Kind.{limit_at}
+use Rattle.scp_wire.specs.scp_quorum.specs.QuorumTree.{Level, QuorumTree}
 use Rattle.hex.specs.Hex.{encode_with}
 use Rattle.scp_text.specs.Pieces.{◌>>=◌, parts, is_plain, listed, bracketed, inside, items_in, all_of, number_in}
 use Rattle.scp_text.specs.Sets.{number_of, node_by, node_text, hash_text, level_text, row_texts, set_text, id_in, numbered, node_from, node_in, counter_in, has_bracket, nodes_first, sets_after, cut, level_in, set_with, inner_in, set_in, hash_from, hash_in}

@@ -6,10 +6,10 @@ use Rattle.std.proofs.lemmas.Bool.Decides.{nat_tests}
 use Rattle.std.proofs.lemmas.List.{length-map}
 use Rattle.hex.specs.Hex.{encode_lower}
 use Rattle.std.specs.Result.{result_ok}
-use Rattle.scp_types.specs.declared.fault.Fault.{Fault}
-use Rattle.scp_xdr.specs.Reading.{reading_whole}
-use Rattle.scp_xdr.proofs.Laws.{whole_found}
-use Rattle.scp_xdr.specs.Kind.{Values, Fits, Spells, spelling}
+use Rattle.scp_kv.specs.scp_types.specs.declared.fault.Fault.{Fault}
+use Rattle.scp_kv.specs.scp_xdr.specs.Reading.{reading_whole}
+use Rattle.scp_kv.specs.scp_xdr.proofs.Laws.{whole_found}
+use Rattle.scp_kv.specs.scp_xdr.specs.Kind.{Values, Fits, Spells, spelling}
 use Rattle.scp_kv.specs.Op.{op_kind, ops_kind, op_value, ops_value, ops_in, IsOps}
 use Rattle.scp_kv.specs.declared.ops.Op.{Op}
 use Rattle.scp_kv.specs.declared.ops.Op.TheVariants.{Put, Del}

@@ -2,9 +2,9 @@
 use Rattle.std.specs.Prelude.{◌≡◌, ◌==◌, ◌≤◌, ℕ, false, List, length, Some, Ok}
 use Rattle.std.specs.List.{AllByRecursion}
 use Rattle.hex.specs.Hex.{IsBytes}
-use Rattle.scp_xdr.specs.Kind.{Spells}
-use Rattle.scp_quorum.specs.QuorumTree.{QuorumTree}
-use Rattle.scp_quorum.specs.QuorumKind.{set_kind, set_value}
+use Rattle.scp_kv.specs.scp_xdr.specs.Kind.{Spells}
+use Rattle.scp_wire.specs.scp_quorum.specs.QuorumTree.{QuorumTree}
+use Rattle.scp_wire.specs.scp_quorum.specs.QuorumKind.{set_kind, set_value}
 use Rattle.scp_wire.specs.declared.message.Message.{Message}
 use Rattle.scp_wire.specs.Message.{message_value, SpellsMessage}
 use Rattle.scp_text.specs.Values.{value_text, value_in}

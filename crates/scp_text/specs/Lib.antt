@@ -1,3 +1,8 @@
+pub use Rattle.scp_kv.specs.scp_types
+pub use Rattle.scp_kv.specs.scp_xdr
+pub use Rattle.scp_wire.specs.scp_quorum
+pub use Rattle.scp_wire.specs.scp_envelope
+pub use Rattle.scp_wire
 pub use Rattle.scp_device
 pub mod Pieces
 pub mod Values

@@ -4,16 +4,16 @@ use Rattle.std.specs.List.{slice_split}
 use Rattle.std.specs.Option.{unwrap_or}
 use Rattle.std.specs.Fmt.{decimal}
 use Rattle.hex.specs.Hex.{encode_lower}
-use Rattle.scp_types.specs.declared.ballot.Ballot.{Ballot}
-use Rattle.scp_types.specs.declared.names.NodeId.{NodeId}
-use Rattle.scp_types.specs.declared.names.Hash.{Hash}
-use Rattle.scp_types.specs.declared.names.Slot.{Slot}
-use Rattle.scp_envelope.specs.declared.statement.Prepare.{Prepare}
-use Rattle.scp_envelope.specs.declared.statement.Confirm.{Confirm}
-use Rattle.scp_envelope.specs.declared.statement.Externalize.{Externalize}
-use Rattle.scp_envelope.specs.declared.statement.Nominate.{Nominate}
-use Rattle.scp_envelope.specs.declared.statement.Pledges.{Pledges}
-use Rattle.scp_envelope.specs.declared.statement.Pledges.TheVariants.{Prepare as Preparing, Confirm as Confirming, Externalize as Externalizing, Nominate as Nominating}
+use Rattle.scp_kv.specs.scp_types.specs.declared.ballot.Ballot.{Ballot}
+use Rattle.scp_kv.specs.scp_types.specs.declared.names.NodeId.{NodeId}
+use Rattle.scp_kv.specs.scp_types.specs.declared.names.Hash.{Hash}
+use Rattle.scp_kv.specs.scp_types.specs.declared.names.Slot.{Slot}
+use Rattle.scp_wire.specs.scp_envelope.specs.declared.statement.Prepare.{Prepare}
+use Rattle.scp_wire.specs.scp_envelope.specs.declared.statement.Confirm.{Confirm}
+use Rattle.scp_wire.specs.scp_envelope.specs.declared.statement.Externalize.{Externalize}
+use Rattle.scp_wire.specs.scp_envelope.specs.declared.statement.Nominate.{Nominate}
+use Rattle.scp_wire.specs.scp_envelope.specs.declared.statement.Pledges.{Pledges}
+use Rattle.scp_wire.specs.scp_envelope.specs.declared.statement.Pledges.TheVariants.{Prepare as Preparing, Confirm as Confirming, Externalize as Externalizing, Nominate as Nominating}
 use Rattle.scp_wire.specs.declared.message.Message.{Message}
 use Rattle.scp_wire.specs.declared.message.Message.TheVariants.{Envelope, GetSet, Set, NoSet, GetRecord, Record, Records}
 use Rattle.scp_wire.specs.Message.{message_value, FitsMessage}

@@ -3,7 +3,7 @@ use Rattle.std.specs.Prelude.{ℕ, Bool, true, ◌&&◌, List, [], ◌∷◌, �
 use Rattle.std.proofs.Common.{inl, inr}
 use Rattle.std.specs.List.{list_all}
 use Rattle.hex.specs.Hex.{encode_lower}
-use Rattle.scp_xdr.specs.Kind.{Values, spelling}
+use Rattle.scp_kv.specs.scp_xdr.specs.Kind.{Values, spelling}
 use Rattle.scp_kv.specs.Op.{op_kind, ops_kind, ops_value, ops_in}
 use Rattle.scp_kv.specs.declared.ops.Op.{Op}
 use Rattle.scp_kv.specs.declared.ops.Op.TheVariants.{Put, Del}

@@ -9,6 +9,7 @@
 //! - `value_of`, `text_of_value`, `set_of` and `text_of_set` do the same for values and quorum sets.
 #![tactic(auto)]
 
+pub mod below;
 mod laws;
 mod message;
 mod pieces;

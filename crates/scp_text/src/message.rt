@@ -10,10 +10,10 @@ ghost use Rattle.scp_text.specs.Messages.{IsNear, envelope_by, words_with, nomin
 use crate::pieces::{digits, inside, items, write_digits};
 use crate::term::{Term, read_all, write_all};
 use scp_device::{BadWord, Expected, WordFault};
-use scp_envelope::{
+use scp_kv::below::types::{Ballot, Fault, Hash, SharedValue, Slot, Value};
+use scp_wire::below::envelope::{
     Confirm, Envelope, Externalize, Nominate, Pledges, Prepare, Signature, Statement, ValueList,
 };
-use scp_types::{Ballot, Fault, Hash, SharedValue, Slot, Value};
 use scp_wire::{BoxedEnvelope, Message, encode};
 use std::alloc::{AllocError, Global};
 

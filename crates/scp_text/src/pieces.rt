@@ -5,7 +5,7 @@ ghost use Rattle.hex.specs.Hex.{encode_lower};
 ghost use Rattle.scp_text.specs.Pieces.{is_plain, is_word, inside, cuts, depth_after, items_in, number_in, digits_in};
 
 use hex::FromHexError;
-use scp_types::Fault;
+use scp_kv::below::types::Fault;
 use std::alloc::{AllocError, Global};
 use std::str;
 

@@ -3,18 +3,18 @@ ghost use Rattle.std.specs.Prelude.{◌≡◌, nat_eq, ◌≤◌, length, take, 
 ghost use Rattle.std.specs.Fmt.{decimal};
 ghost use Rattle.std.specs.List.{list_all};
 ghost use Rattle.hex.specs.Hex.{encode_lower};
-ghost use Rattle.scp_xdr.specs.Tree.{in_a_row};
+ghost use Rattle.scp_kv.specs.scp_xdr.specs.Tree.{in_a_row};
 ghost use Rattle.scp_text.specs.Pieces.{listed, all_of, items_in};
-ghost use Rattle.scp_quorum.specs.Sane.{levels as levels_of};
+ghost use Rattle.scp_wire.specs.scp_quorum.specs.Sane.{levels as levels_of};
 ghost use Rattle.scp_text.specs.Sets.{within, number_of, node_text, hash_text, set_text, row_texts, id_in, numbered, node_in, counter_in, has_bracket, nodes_first, sets_after, cut, level_in, set_with, inner_in as inner_in_at, set_in, hash_in};
-ghost use Rattle.scp_xdr.specs.Kind.{Fits};
-ghost use Rattle.scp_quorum.specs.QuorumKind.{set_kind, set_value, set_hash};
+ghost use Rattle.scp_kv.specs.scp_xdr.specs.Kind.{Fits};
+ghost use Rattle.scp_wire.specs.scp_quorum.specs.QuorumKind.{set_kind, set_value, set_hash};
 ghost use Rattle.scp_text.specs.Messages.{slot_in};
 
 use crate::pieces::{inside, items, number, write_digits};
 use crate::term::{Term, read_all, write_all};
-use scp_quorum::QuorumSet;
-use scp_types::{Fault, Hash, NodeId, Slot};
+use scp_kv::below::types::{Fault, Hash, NodeId, Slot};
+use scp_wire::below::quorum::QuorumSet;
 use std::alloc::{AllocError, Global};
 
 /// How many validators, and how many inner sets, a quorum set may have (this project's profile).

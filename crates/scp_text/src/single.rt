@@ -1,7 +1,7 @@
 //! Values and quorum sets alone, as text and back.
 ghost use Rattle.std.specs.Prelude.{◌≡◌, ◌≤◌, ◌<◌, ◌⊎◌, ◌↔◌, Some, Ok, length, IfOk, IfSome, IfErr, IsOkUnless, IsErrOf, string_bytes};
-ghost use Rattle.scp_xdr.specs.Kind.{Fits, Spells};
-ghost use Rattle.scp_quorum.specs.QuorumKind.{set_kind, set_value};
+ghost use Rattle.scp_kv.specs.scp_xdr.specs.Kind.{Fits, Spells};
+ghost use Rattle.scp_wire.specs.scp_quorum.specs.QuorumKind.{set_kind, set_value};
 ghost use Rattle.scp_text.specs.Values.{value_text, value_in};
 ghost use Rattle.scp_text.specs.Sets.{set_text, set_in};
 ghost use Rattle.scp_text.specs.Messages.{or_refused, Answers};
@@ -10,8 +10,8 @@ use crate::message::see_bytes;
 use crate::set::read_fitting;
 use crate::term::Term;
 use scp_device::{BadWord, Expected, WordFault};
-use scp_quorum::QuorumSet;
-use scp_types::{Fault, VALUE_LIMIT, Value};
+use scp_kv::below::types::{Fault, VALUE_LIMIT, Value};
+use scp_wire::below::quorum::QuorumSet;
 use std::alloc::Global;
 
 /// That the text of a value within its limit is read as it. Does nothing.

@@ -2,7 +2,7 @@
 ghost use Rattle.std.specs.Prelude.{◌≡◌, ◌++◌, ℕ, List, Option, IfOk, OnOk, IsOkUnless, true, map, option_map, string_bytes};
 ghost use Rattle.scp_text.specs.Pieces.{listed, all_of};
 
-use scp_types::Fault;
+use scp_kv::below::types::Fault;
 use std::alloc::Global;
 
 /// What is written as one text without a space.

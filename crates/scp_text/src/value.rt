@@ -1,18 +1,18 @@
 //! Values and operations as text.
 ghost use Rattle.std.specs.Prelude.{◌≡◌, ◌++◌, IfOk, OnOk, IsOkUnless, option_map, string_bytes};
-ghost use Rattle.scp_xdr.specs.Kind.{Values};
+ghost use Rattle.scp_kv.specs.scp_xdr.specs.Kind.{Values};
 ghost use Rattle.scp_kv.specs.Op.{ops_kind, ops_value};
 ghost use Rattle.scp_text.specs.Values.{bytes_text, bytes_in, hex_text, op_text, op_in, list_of, ops_text, value_text, value_by, value_in, put_in, del_in};
 ghost use Rattle.scp_text.specs.Pieces.{items_in};
 
 use crate::pieces::{digits, inside, items, word, write_digits};
 use crate::term::{Term, read_all, write_all};
-use scp_kv::{Op, ops_of};
-use scp_types::{Fault, VALUE_LIMIT, Value};
-use scp_xdr::{
+use scp_kv::below::types::{Fault, VALUE_LIMIT, Value};
+use scp_kv::below::xdr::{
     Reader, Writer, Xdr, array_fits, encode_within, pass_array, read_array, spend_array,
     write_array,
 };
+use scp_kv::{Op, ops_of};
 use std::alloc::Global;
 
 /// The most bytes of an operation list (this project's profile).

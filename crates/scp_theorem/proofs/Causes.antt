@@ -4,23 +4,23 @@ use Rattle.std.specs.Prelude.{Contains, flat_map}
 use Rattle.std.specs.List.{AllByRecursion}
 use Rattle.std.proofs.lemmas.List.Elements.{All-nil, All-cons, All-contains, Contains-push, Contains-append_left, Contains-append_right, Contains-append_cases}
 use Rattle.std.proofs.lemmas.Grind.{flat_map-append}
-use Rattle.scp_types.specs.declared.names.ConnId.{ConnId}
-use Rattle.scp_types.specs.declared.names.Slot.{Slot}
-use Rattle.scp_quorum.specs.QuorumTree.{QuorumTree}
-use Rattle.scp_driver.specs.declared.driver.Level.{Level}
-use Rattle.scp_wire.specs.declared.carried.Carried.{Carried}
-use Rattle.scp_wire.specs.declared.link.Command.{Command}
-use Rattle.scp_wire.specs.declared.link.Command.TheVariants.{Propose, Round, Timer, Tick, Ask}
-use Rattle.scp_wire.specs.declared.link.Inbound.{Inbound}
-use Rattle.scp_wire.specs.declared.link.Inbound.TheVariants as inbound
-use Rattle.scp_pending.specs.declared.ready.Ready.{Ready}
-use Rattle.scp_pending.specs.Rules.{Settled, fresh, settled_by, released_by}
-use Rattle.scp_pending.specs.Causes.{HasCause}
-use Rattle.scp_pending.specs.Independence.{MayPass, StandsDelivered}
-use Rattle.scp_pending.specs.Endings.{way, ways, commands_in, commands_of, passed, passing}
-use Rattle.scp_pending.specs.Linked.{IsOfLink, IsReadyOf}
-use Rattle.scp_pending.specs.Pends.{start_of as start_by}
-use Rattle.scp_pending.specs.Placing.{StandsAt}
+use Rattle.scp_outbox.specs.scp_types.specs.declared.names.ConnId.{ConnId}
+use Rattle.scp_outbox.specs.scp_types.specs.declared.names.Slot.{Slot}
+use Rattle.scp_outbox.specs.scp_quorum.specs.QuorumTree.{QuorumTree}
+use Rattle.scp_apply.specs.scp_driver.specs.declared.driver.Level.{Level}
+use Rattle.scp_outbox.specs.scp_wire.specs.declared.carried.Carried.{Carried}
+use Rattle.scp_outbox.specs.scp_wire.specs.declared.link.Command.{Command}
+use Rattle.scp_outbox.specs.scp_wire.specs.declared.link.Command.TheVariants.{Propose, Round, Timer, Tick, Ask}
+use Rattle.scp_outbox.specs.scp_wire.specs.declared.link.Inbound.{Inbound}
+use Rattle.scp_outbox.specs.scp_wire.specs.declared.link.Inbound.TheVariants as inbound
+use Rattle.scp_apply.specs.scp_pending.specs.declared.ready.Ready.{Ready}
+use Rattle.scp_apply.specs.scp_pending.specs.Rules.{Settled, fresh, settled_by, released_by}
+use Rattle.scp_apply.specs.scp_pending.specs.Causes.{HasCause}
+use Rattle.scp_apply.specs.scp_pending.specs.Independence.{MayPass, StandsDelivered}
+use Rattle.scp_apply.specs.scp_pending.specs.Endings.{way, ways, commands_in, commands_of, passed, passing}
+use Rattle.scp_apply.specs.scp_pending.specs.Linked.{IsOfLink, IsReadyOf}
+use Rattle.scp_apply.specs.scp_pending.specs.Pends.{start_of as start_by}
+use Rattle.scp_apply.specs.scp_pending.specs.Placing.{StandsAt}
 use Rattle.scp_apply.specs.scp_ledger.specs.declared.journal.Asking.{Asking}
 use Rattle.scp_apply.specs.scp_ledger.specs.Journals.{entry_of}
 use Rattle.scp_apply.specs.scp_ledger.specs.Seen.{is_asked}
@@ -28,7 +28,7 @@ use Rattle.scp_theorem.specs.Account.{Account, Ran}
 use Rattle.scp_theorem.specs.Fates.{conn_of, FateHasCause, ways_on}
 use Rattle.scp_theorem.specs.Kept.{start_of, leaving, AreJudgedInTurn}
 use Rattle.scp_theorem.proofs.Entries.{same_ways, journal_caused, journal_of}
-use Rattle.scp_theorem.proofs.Below.{Laws}
+use Rattle.scp_theorem.proofs.StageLaws.{Laws}
 
 -- ---- a command that is given came
 

@@ -4,20 +4,20 @@ use Rattle.std.specs.List.{AllByRecursion, range_with_len}
 use Rattle.std.specs.List.Sorted.{IsPermutation}
 use Rattle.std.proofs.lemmas.Grind.{flat_map-append}
 use Rattle.std.proofs.lemmas.List.Elements.{Contains-append_left, Contains-append_right, Contains-append_cases, Contains-push, Contains-push_cases}
-use Rattle.scp_types.specs.declared.names.ConnId.{ConnId}
-use Rattle.scp_types.specs.declared.names.Seq.{Seq}
-use Rattle.scp_wire.specs.declared.link.Cause.{Cause}
-use Rattle.scp_wire.specs.declared.link.Cause.TheVariants.{ParkedFull}
-use Rattle.scp_wire.specs.declared.link.Inbound.{Inbound}
-use Rattle.scp_wire.specs.Connections.{same_conn}
-use Rattle.scp_wire.specs.Marks.{Mark, number, ended, one_if}
-use Rattle.scp_pending.specs.declared.ready.DropCause.{DropCause}
-use Rattle.scp_pending.specs.declared.ready.DropCause.TheVariants.{BadSet, GaveUp, Closed as ByClose, ParkedFull as ByFull}
-use Rattle.scp_pending.specs.declared.ready.Ready.{Ready}
-use Rattle.scp_pending.specs.declared.ready.Ready.TheVariants as ready
-use Rattle.scp_pending.specs.Endings.{Way, went, by_close, by_full, over, way_by, way, ways, number_of, numbers_of, HasWent, AllWent, IsClosedOff, IsCutOff, Exits}
-use Rattle.scp_pending.specs.Line.{ready_mark, marks_of as marks_ready}
-use Rattle.scp_pending.specs.Rules.{Settled}
+use Rattle.scp_outbox.specs.scp_types.specs.declared.names.ConnId.{ConnId}
+use Rattle.scp_outbox.specs.scp_types.specs.declared.names.Seq.{Seq}
+use Rattle.scp_outbox.specs.scp_wire.specs.declared.link.Cause.{Cause}
+use Rattle.scp_outbox.specs.scp_wire.specs.declared.link.Cause.TheVariants.{ParkedFull}
+use Rattle.scp_outbox.specs.scp_wire.specs.declared.link.Inbound.{Inbound}
+use Rattle.scp_outbox.specs.scp_wire.specs.Connections.{same_conn}
+use Rattle.scp_outbox.specs.scp_wire.specs.Marks.{Mark, number, ended, one_if}
+use Rattle.scp_apply.specs.scp_pending.specs.declared.ready.DropCause.{DropCause}
+use Rattle.scp_apply.specs.scp_pending.specs.declared.ready.DropCause.TheVariants.{BadSet, GaveUp, Closed as ByClose, ParkedFull as ByFull}
+use Rattle.scp_apply.specs.scp_pending.specs.declared.ready.Ready.{Ready}
+use Rattle.scp_apply.specs.scp_pending.specs.declared.ready.Ready.TheVariants as ready
+use Rattle.scp_apply.specs.scp_pending.specs.Endings.{Way, went, by_close, by_full, over, way_by, way, ways, number_of, numbers_of, HasWent, AllWent, IsClosedOff, IsCutOff, Exits}
+use Rattle.scp_apply.specs.scp_pending.specs.Line.{ready_mark, marks_of as marks_ready}
+use Rattle.scp_apply.specs.scp_pending.specs.Rules.{Settled}
 use Rattle.scp_apply.specs.scp_ledger.specs.declared.journal.Fate.{Fate}
 use Rattle.scp_apply.specs.scp_ledger.specs.declared.journal.Fate.TheVariants.{Taken, Dropped, Closed}
 use Rattle.scp_apply.specs.scp_ledger.specs.Marks.{entry_mark, marks_of as marks_on}

@@ -5,9 +5,9 @@ use Rattle.std.specs.List.Sorted.{IsPermutation}
 use Rattle.std.proofs.lemmas.Grind.{flat_map-append}
 use Rattle.std.proofs.lemmas.List.Elements.{All-take, All-contains_itself, All-weaker}
 use Rattle.std.proofs.lemmas.List.Sorted.{IsPermutation-append, IsPermutation-refl, All-permutation}
-use Rattle.scp_types.specs.declared.names.NodeId.{NodeId}
-use Rattle.scp_quorum.specs.QuorumTree.{QuorumTree}
-use Rattle.scp_driver.specs.declared.driver.Level.{Level}
+use Rattle.scp_outbox.specs.scp_types.specs.declared.names.NodeId.{NodeId}
+use Rattle.scp_outbox.specs.scp_quorum.specs.QuorumTree.{QuorumTree}
+use Rattle.scp_apply.specs.scp_driver.specs.declared.driver.Level.{Level}
 use Rattle.scp_apply.specs.scp_ledger.specs.declared.journal.Decision.{Decision}
 use Rattle.scp_apply.specs.scp_ledger.specs.Decisions.{IsFounded}
 use Rattle.scp_apply.specs.scp_ledger.specs.Onwards.{decisions_on, decision_on}

@@ -1,19 +1,19 @@
 -- A ledger that takes a thing keeps its application.
 use Rattle.std.proofs.Common.{◌≡◌, ℕ, List, ap, inl, inr}
 use Rattle.std.specs.Prelude.{Option}
-use Rattle.scp_types.specs.declared.names.ConnId.{ConnId}
-use Rattle.scp_types.specs.declared.names.Seq.{Seq}
-use Rattle.scp_types.specs.declared.names.Slot.{Slot}
-use Rattle.scp_driver.specs.Driver.{Says}
-use Rattle.scp_quorum.specs.QuorumTree.{QuorumTree}
-use Rattle.scp_wire.specs.declared.link.Command.{Command}
-use Rattle.scp_wire.specs.declared.link.Command.TheVariants.{Propose, Round, Timer, Tick, Ask}
-use Rattle.scp_wire.specs.declared.message.Message.{Message}
-use Rattle.scp_wire.specs.declared.message.Message.TheVariants.{Envelope, GetSet, Set, NoSet, GetRecord, Record, Records}
-use Rattle.scp_slot.specs.declared.output.SlotInput.{SlotInput}
-use Rattle.scp_slot.specs.declared.output.SlotInput.TheVariants as input
-use Rattle.scp_pending.specs.declared.ready.Ready.{Ready}
-use Rattle.scp_pending.specs.declared.ready.Ready.TheVariants as ready
+use Rattle.scp_outbox.specs.scp_types.specs.declared.names.ConnId.{ConnId}
+use Rattle.scp_outbox.specs.scp_types.specs.declared.names.Seq.{Seq}
+use Rattle.scp_outbox.specs.scp_types.specs.declared.names.Slot.{Slot}
+use Rattle.scp_apply.specs.scp_driver.specs.Driver.{Says}
+use Rattle.scp_outbox.specs.scp_quorum.specs.QuorumTree.{QuorumTree}
+use Rattle.scp_outbox.specs.scp_wire.specs.declared.link.Command.{Command}
+use Rattle.scp_outbox.specs.scp_wire.specs.declared.link.Command.TheVariants.{Propose, Round, Timer, Tick, Ask}
+use Rattle.scp_outbox.specs.scp_wire.specs.declared.message.Message.{Message}
+use Rattle.scp_outbox.specs.scp_wire.specs.declared.message.Message.TheVariants.{Envelope, GetSet, Set, NoSet, GetRecord, Record, Records}
+use Rattle.scp_apply.specs.scp_slot.specs.declared.output.SlotInput.{SlotInput}
+use Rattle.scp_apply.specs.scp_slot.specs.declared.output.SlotInput.TheVariants as input
+use Rattle.scp_apply.specs.scp_pending.specs.declared.ready.Ready.{Ready}
+use Rattle.scp_apply.specs.scp_pending.specs.declared.ready.Ready.TheVariants as ready
 use Rattle.scp_apply.specs.scp_ledger.specs.declared.took.Took.{Took}
 use Rattle.scp_apply.specs.scp_ledger.specs.By.{TakesBy}
 use Rattle.scp_apply.specs.scp_ledger.specs.Seen.{LedgerView}

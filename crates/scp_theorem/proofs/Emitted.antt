@@ -2,35 +2,35 @@
 use Rattle.std.proofs.Common.{◌≡◌, ℕ, Bool, true, false, List, [], refl, sym, ◌∙◌, ap, subst, inl, inr}
 use Rattle.std.specs.Prelude.{Option, Some, None, IsSomeAnd}
 use Rattle.std.specs.Option.{ForSome}
-use Rattle.scp_types.specs.declared.names.Hash.{Hash}
-use Rattle.scp_types.specs.declared.names.NodeId.{NodeId}
-use Rattle.scp_envelope.specs.Kinds.{set_hash_of}
-use Rattle.scp_envelope.specs.Newer.{ArePledgesNewer}
-use Rattle.scp_envelope.specs.Sane.{IsSane}
-use Rattle.scp_envelope.specs.declared.statement.Envelope.{Envelope as Enveloped}
-use Rattle.scp_envelope.specs.declared.statement.Pledges.{Pledges}
-use Rattle.scp_envelope.specs.declared.statement.Pledges.TheVariants.{Prepare, Confirm, Externalize, Nominate}
-use Rattle.scp_envelope.specs.declared.statement.Statement.{Statement}
-use Rattle.scp_vote.specs.declared.claim.StatementKind.{StatementKind}
-use Rattle.scp_vote.specs.declared.claim.StatementKind.TheVariants.{Nomination as Nominating, Balloting}
-use Rattle.scp_vote.specs.Board.{kind_of_pledges}
-use Rattle.scp_vote.specs.Licence.{IsExternalize}
+use Rattle.scp_outbox.specs.scp_types.specs.declared.names.Hash.{Hash}
+use Rattle.scp_outbox.specs.scp_types.specs.declared.names.NodeId.{NodeId}
+use Rattle.scp_outbox.specs.scp_envelope.specs.Kinds.{set_hash_of}
+use Rattle.scp_outbox.specs.scp_envelope.specs.Newer.{ArePledgesNewer}
+use Rattle.scp_outbox.specs.scp_envelope.specs.Sane.{IsSane}
+use Rattle.scp_outbox.specs.scp_envelope.specs.declared.statement.Envelope.{Envelope as Enveloped}
+use Rattle.scp_outbox.specs.scp_envelope.specs.declared.statement.Pledges.{Pledges}
+use Rattle.scp_outbox.specs.scp_envelope.specs.declared.statement.Pledges.TheVariants.{Prepare, Confirm, Externalize, Nominate}
+use Rattle.scp_outbox.specs.scp_envelope.specs.declared.statement.Statement.{Statement}
+use Rattle.scp_apply.specs.scp_vote.specs.declared.claim.StatementKind.{StatementKind}
+use Rattle.scp_apply.specs.scp_vote.specs.declared.claim.StatementKind.TheVariants.{Nomination as Nominating, Balloting}
+use Rattle.scp_apply.specs.scp_vote.specs.Board.{kind_of_pledges}
+use Rattle.scp_apply.specs.scp_vote.specs.Licence.{IsExternalize}
 use Rattle.scp_outbox.specs.Outbox.{is_nomination}
-use Rattle.scp_driver.specs.declared.driver.Level.{Level}
-use Rattle.scp_nominate.specs.declared.nominated.Nominated.{Nominated}
-use Rattle.scp_nominate.specs.Nomination as nominate
-use Rattle.scp_nominate.specs.Nomination.{Nomination}
-use Rattle.scp_ballot.specs.declared.balloted.Balloted.{Balloted}
-use Rattle.scp_ballot.specs.declared.balloted.Certified.{Certified}
-use Rattle.scp_ballot.specs.Balloting as ballot
-use Rattle.scp_ballot.specs.Balloting.{Ballots, last_emitted}
-use Rattle.scp_slot.specs.declared.output.SlotInput.{SlotInput}
-use Rattle.scp_slot.specs.declared.output.SlotInput.TheVariants.{Propose, Round, Timer, Envelope}
-use Rattle.scp_slot.specs.declared.output.SlotOutput.{SlotOutput}
-use Rattle.scp_slot.specs.declared.output.Verdict.{Verdict}
-use Rattle.scp_slot.specs.Slot.{SlotView}
-use Rattle.scp_quorum.specs.SharedSet.{SharedSet}
-use Rattle.scp_slot.specs.Takes as slot
+use Rattle.scp_apply.specs.scp_driver.specs.declared.driver.Level.{Level}
+use Rattle.scp_apply.specs.scp_nominate.specs.declared.nominated.Nominated.{Nominated}
+use Rattle.scp_apply.specs.scp_nominate.specs.Nomination as nominate
+use Rattle.scp_apply.specs.scp_nominate.specs.Nomination.{Nomination}
+use Rattle.scp_apply.specs.scp_ballot.specs.declared.balloted.Balloted.{Balloted}
+use Rattle.scp_apply.specs.scp_ballot.specs.declared.balloted.Certified.{Certified}
+use Rattle.scp_apply.specs.scp_ballot.specs.Balloting as ballot
+use Rattle.scp_apply.specs.scp_ballot.specs.Balloting.{Ballots, last_emitted}
+use Rattle.scp_apply.specs.scp_slot.specs.declared.output.SlotInput.{SlotInput}
+use Rattle.scp_apply.specs.scp_slot.specs.declared.output.SlotInput.TheVariants.{Propose, Round, Timer, Envelope}
+use Rattle.scp_apply.specs.scp_slot.specs.declared.output.SlotOutput.{SlotOutput}
+use Rattle.scp_apply.specs.scp_slot.specs.declared.output.Verdict.{Verdict}
+use Rattle.scp_apply.specs.scp_slot.specs.Slot.{SlotView}
+use Rattle.scp_outbox.specs.scp_quorum.specs.SharedSet.{SharedSet}
+use Rattle.scp_apply.specs.scp_slot.specs.Takes as slot
 use Rattle.scp_theorem.proofs.Basics.{some_there, there_some, none_some}
 
 -- ---- one input

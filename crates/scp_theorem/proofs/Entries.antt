@@ -2,18 +2,18 @@
 use Rattle.std.proofs.Common.{◌≡◌, ℕ, zero, suc, true, List, [], ◌∷◌, ◌++◌, refl, sym, ◌∙◌, ap, subst}
 use Rattle.std.specs.Prelude.{Some, slice_get, flat_map, map}
 use Rattle.std.specs.List.{AllByRecursion}
-use Rattle.scp_types.specs.declared.names.ConnId.{ConnId}
-use Rattle.scp_wire.specs.declared.message.Message.{Message}
-use Rattle.scp_wire.specs.declared.link.Inbound.{Inbound}
-use Rattle.scp_wire.specs.Connections.{same_conn}
-use Rattle.scp_wire.specs.Marks.{Mark, number, ended, one_if}
-use Rattle.scp_pending.specs.declared.ready.Ready.{Ready}
-use Rattle.scp_pending.specs.declared.ready.Ready.TheVariants as ready
-use Rattle.scp_pending.specs.Line.{marks_of, HaveMessages}
-use Rattle.scp_pending.specs.Rules.{Settled}
-use Rattle.scp_pending.specs.Causes.{IsTaken, HasCause}
-use Rattle.scp_pending.specs.Endings.{Way, went, over, way_by, ways}
-use Rattle.scp_pending.specs.Linked.{IsReadyOf}
+use Rattle.scp_outbox.specs.scp_types.specs.declared.names.ConnId.{ConnId}
+use Rattle.scp_outbox.specs.scp_wire.specs.declared.message.Message.{Message}
+use Rattle.scp_outbox.specs.scp_wire.specs.declared.link.Inbound.{Inbound}
+use Rattle.scp_outbox.specs.scp_wire.specs.Connections.{same_conn}
+use Rattle.scp_outbox.specs.scp_wire.specs.Marks.{Mark, number, ended, one_if}
+use Rattle.scp_apply.specs.scp_pending.specs.declared.ready.Ready.{Ready}
+use Rattle.scp_apply.specs.scp_pending.specs.declared.ready.Ready.TheVariants as ready
+use Rattle.scp_apply.specs.scp_pending.specs.Line.{marks_of, HaveMessages}
+use Rattle.scp_apply.specs.scp_pending.specs.Rules.{Settled}
+use Rattle.scp_apply.specs.scp_pending.specs.Causes.{IsTaken, HasCause}
+use Rattle.scp_apply.specs.scp_pending.specs.Endings.{Way, went, over, way_by, ways}
+use Rattle.scp_apply.specs.scp_pending.specs.Linked.{IsReadyOf}
 use Rattle.scp_apply.specs.scp_ledger.specs.declared.journal.Fate.{Fate}
 use Rattle.scp_apply.specs.scp_ledger.specs.declared.journal.Fate.TheVariants.{Taken, Dropped, Closed}
 use Rattle.scp_apply.specs.scp_ledger.specs.Journals.{Entry, taken, dropped, closed, entry_in, entry_of}

@@ -4,31 +4,31 @@ use Rattle.std.specs.Prelude.{Option, Some, slice_get}
 use Rattle.std.specs.List.{AllByRecursion}
 use Rattle.std.proofs.lemmas.Grind.{flat_map-append}
 use Rattle.std.proofs.lemmas.List.Elements.{filter-append}
-use Rattle.scp_types.specs.declared.names.ConnId.{ConnId}
-use Rattle.scp_types.specs.declared.names.NodeId.{NodeId}
-use Rattle.scp_driver.specs.declared.driver.Level.{Level}
-use Rattle.scp_wire.specs.declared.message.Message.{Message}
-use Rattle.scp_wire.specs.declared.link.Cause.{Cause}
-use Rattle.scp_wire.specs.declared.link.Inbound.{Inbound}
-use Rattle.scp_wire.specs.Connections.{conn_at}
-use Rattle.scp_wire.specs.LinkReading.{unread, readings}
-use Rattle.scp_wire.specs.ReaderLaws.{IsSent}
-use Rattle.scp_wire.specs.Shape.{HasShape, AreInOrder, nothing_came, of_peer, is_from}
-use Rattle.scp_wire.specs.Marks.{Mark, marks_in, messages_in, IsWhole}
-use Rattle.scp_wire.specs.Lanes.{slots_of, in_lane, lane_numbers, EndsLast, HaveSlots}
-use Rattle.scp_wire.specs.Sent.{sent, is_closed, carried_of, end_of}
-use Rattle.scp_pending.specs.declared.ready.Ready.{Ready}
-use Rattle.scp_pending.specs.Endings.{Way, Exits, ways}
-use Rattle.scp_pending.specs.Line.{ready_mark, marks_of, HaveMessages, HasItsMessage, Accounts, held}
-use Rattle.scp_pending.specs.Queues.{is_open}
-use Rattle.scp_pending.specs.Rules.{Settled, settled_by}
+use Rattle.scp_outbox.specs.scp_types.specs.declared.names.ConnId.{ConnId}
+use Rattle.scp_outbox.specs.scp_types.specs.declared.names.NodeId.{NodeId}
+use Rattle.scp_apply.specs.scp_driver.specs.declared.driver.Level.{Level}
+use Rattle.scp_outbox.specs.scp_wire.specs.declared.message.Message.{Message}
+use Rattle.scp_outbox.specs.scp_wire.specs.declared.link.Cause.{Cause}
+use Rattle.scp_outbox.specs.scp_wire.specs.declared.link.Inbound.{Inbound}
+use Rattle.scp_outbox.specs.scp_wire.specs.Connections.{conn_at}
+use Rattle.scp_outbox.specs.scp_wire.specs.LinkReading.{unread, readings}
+use Rattle.scp_outbox.specs.scp_wire.specs.ReaderLaws.{IsSent}
+use Rattle.scp_outbox.specs.scp_wire.specs.Shape.{HasShape, AreInOrder, nothing_came, of_peer, is_from}
+use Rattle.scp_outbox.specs.scp_wire.specs.Marks.{Mark, marks_in, messages_in, IsWhole}
+use Rattle.scp_outbox.specs.scp_wire.specs.Lanes.{slots_of, in_lane, lane_numbers, EndsLast, HaveSlots}
+use Rattle.scp_outbox.specs.scp_wire.specs.Sent.{sent, is_closed, carried_of, end_of}
+use Rattle.scp_apply.specs.scp_pending.specs.declared.ready.Ready.{Ready}
+use Rattle.scp_apply.specs.scp_pending.specs.Endings.{Way, Exits, ways}
+use Rattle.scp_apply.specs.scp_pending.specs.Line.{ready_mark, marks_of, HaveMessages, HasItsMessage, Accounts, held}
+use Rattle.scp_apply.specs.scp_pending.specs.Queues.{is_open}
+use Rattle.scp_apply.specs.scp_pending.specs.Rules.{Settled, settled_by}
 use Rattle.scp_apply.specs.scp_ledger.specs.Marks.{marks_of as marks_on}
 use Rattle.scp_theorem.specs.Account.{Account, Ran}
 use Rattle.scp_theorem.specs.Fates.{Fates, HasItsNumber, ways_on}
 use Rattle.scp_theorem.specs.Kept.{start_of, leaving, slots_sent, line_sent, line_held, HasItsFates}
 use Rattle.scp_theorem.proofs.Entries.{same_marks, journal_right}
 use Rattle.scp_theorem.proofs.Holding.{held_are_messages, is_live_by_place}
-use Rattle.scp_theorem.proofs.Below.{Laws}
+use Rattle.scp_theorem.proofs.StageLaws.{Laws}
 use Rattle.scp_theorem.proofs.Causes.{start_is, by_rules, ways_are, all_front}
 
 -- ---- plain lists

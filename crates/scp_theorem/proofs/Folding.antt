@@ -1,10 +1,10 @@
 -- The state that the definitions fold is what the values make of it, one after another.
 use Rattle.std.proofs.Common.{ℕ, ◌≡◌, List, [], ◌∷◌, Option, Some, None, refl, ap}
 use Rattle.std.specs.Prelude.{◌<◌, All, fold}
-use Rattle.scp_xdr.specs.Kind.{Values}
-use Rattle.scp_kv.specs.Map.{KvMap}
-use Rattle.scp_kv.specs.Op.{ops_kind, ops_in, IsOps}
-use Rattle.scp_kv.specs.State.{after_found, after_value}
+use Rattle.scp_outbox.specs.scp_xdr.specs.Kind.{Values}
+use Rattle.scp_apply.specs.scp_kv.specs.Map.{KvMap}
+use Rattle.scp_apply.specs.scp_kv.specs.Op.{ops_kind, ops_in, IsOps}
+use Rattle.scp_apply.specs.scp_kv.specs.State.{after_found, after_value}
 use Rattle.scp_theorem.specs.State.{IsAfter, IsFold}
 
 -- what the operation lists' own law says

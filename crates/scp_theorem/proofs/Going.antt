@@ -4,20 +4,20 @@ use Rattle.std.specs.Prelude.{Option, Some, None, Any, Contains, flat_map}
 use Rattle.std.proofs.lemmas.Grind.{flat_map-append}
 use Rattle.std.proofs.lemmas.List.Elements.{Contains-push, Contains-append_left, Contains-append_right}
 use Rattle.std.proofs.lemmas.List.Sums.{fold-append}
-use Rattle.scp_driver.specs.Driver.{Says}
-use Rattle.scp_types.specs.declared.names.Slot.{Slot}
-use Rattle.scp_wire.specs.declared.link.Command.{Command}
-use Rattle.scp_wire.specs.declared.link.Command.TheVariants.{Ask}
-use Rattle.scp_wire.specs.declared.link.Inbound.{Inbound}
-use Rattle.scp_wire.specs.declared.message.Message.{Message}
-use Rattle.scp_pending.specs.declared.ready.Ready.{Ready}
-use Rattle.scp_pending.specs.declared.ready.Ready.TheVariants as ready
-use Rattle.scp_pending.specs.Endings.{commands_in, commands_of, passed}
-use Rattle.scp_pending.specs.Fetching.{RepliesAreAskedFor}
-use Rattle.scp_pending.specs.Laws.{CommandsPass}
-use Rattle.scp_pending.specs.Linked.{NothingIsOfAStranger, WhoItIsStays}
-use Rattle.scp_pending.specs.Queues.{hash_of}
-use Rattle.scp_pending.specs.Rules.{Settled, rules, settled_by, reply}
+use Rattle.scp_apply.specs.scp_driver.specs.Driver.{Says}
+use Rattle.scp_outbox.specs.scp_types.specs.declared.names.Slot.{Slot}
+use Rattle.scp_outbox.specs.scp_wire.specs.declared.link.Command.{Command}
+use Rattle.scp_outbox.specs.scp_wire.specs.declared.link.Command.TheVariants.{Ask}
+use Rattle.scp_outbox.specs.scp_wire.specs.declared.link.Inbound.{Inbound}
+use Rattle.scp_outbox.specs.scp_wire.specs.declared.message.Message.{Message}
+use Rattle.scp_apply.specs.scp_pending.specs.declared.ready.Ready.{Ready}
+use Rattle.scp_apply.specs.scp_pending.specs.declared.ready.Ready.TheVariants as ready
+use Rattle.scp_apply.specs.scp_pending.specs.Endings.{commands_in, commands_of, passed}
+use Rattle.scp_apply.specs.scp_pending.specs.Fetching.{RepliesAreAskedFor}
+use Rattle.scp_apply.specs.scp_pending.specs.Laws.{CommandsPass}
+use Rattle.scp_apply.specs.scp_pending.specs.Linked.{NothingIsOfAStranger, WhoItIsStays}
+use Rattle.scp_apply.specs.scp_pending.specs.Queues.{hash_of}
+use Rattle.scp_apply.specs.scp_pending.specs.Rules.{Settled, rules, settled_by, reply}
 use Rattle.scp_apply.specs.scp_ledger.specs.declared.journal.Decision.{Decision}
 use Rattle.scp_apply.specs.scp_ledger.specs.declared.took.Onward.{Onward}
 use Rattle.scp_apply.specs.scp_ledger.specs.declared.took.Onward.TheVariants.{Decided, Asked}
@@ -197,5 +197,5 @@ module _ {D : Type 0} (says : Says D) where
             replies_may = subst (AllOut (MayAnswer g)) (sym h.replies_are) (replies_out asked stays links g [] a.came refl) link;
             said_may = fit.allowed link;
             newer = fit.newer link;
-            answers_may = answers_out g (λ l slot there. request_stands g l slot (keeps a h.ran).of_links there) (nothing_applied a.ledger.first) h.ran.applied answers a.applier h.answered refl (requests_came passes a h.ran) link;
+            answers_may = answers_out g (λ l slot there. request_stands g l slot (keeps a h.ran).of_links there) (nothing_applied a.ledger.first a.applier.base) h.ran.applied answers a.applier h.answered refl (requests_came passes a h.ran) link;
           }

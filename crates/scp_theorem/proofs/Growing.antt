@@ -1,16 +1,16 @@
 -- What may be sent may be sent where more was taken, written, decided and applied.
 use Rattle.std.proofs.Common.{◌≡◌, ℕ, true, List, ◌∷◌, ◌++◌, sym, ◌∙◌, ap, subst, append_assoc}
-use Rattle.scp_types.specs.declared.names.Hash.{Hash}
-use Rattle.scp_envelope.specs.declared.statement.Envelope.{Envelope as Enveloped}
-use Rattle.scp_envelope.specs.declared.statement.Pledges.{Pledges}
-use Rattle.scp_envelope.specs.declared.statement.Pledges.TheVariants.{Prepare, Confirm, Externalize, Nominate}
-use Rattle.scp_wire.specs.declared.link.Inbound.{Inbound}
-use Rattle.scp_wire.specs.declared.link.Inbound.TheVariants as inbound
-use Rattle.scp_wire.specs.declared.message.Message.{Message}
-use Rattle.scp_wire.specs.declared.message.Message.TheVariants as message
-use Rattle.scp_wire.specs.declared.side.SideMessage.TheVariants as side
-use Rattle.scp_pending.specs.Queues.{is_open, hash_of}
-use Rattle.scp_pending.specs.Rules.{settled_by}
+use Rattle.scp_outbox.specs.scp_types.specs.declared.names.Hash.{Hash}
+use Rattle.scp_outbox.specs.scp_envelope.specs.declared.statement.Envelope.{Envelope as Enveloped}
+use Rattle.scp_outbox.specs.scp_envelope.specs.declared.statement.Pledges.{Pledges}
+use Rattle.scp_outbox.specs.scp_envelope.specs.declared.statement.Pledges.TheVariants.{Prepare, Confirm, Externalize, Nominate}
+use Rattle.scp_outbox.specs.scp_wire.specs.declared.link.Inbound.{Inbound}
+use Rattle.scp_outbox.specs.scp_wire.specs.declared.link.Inbound.TheVariants as inbound
+use Rattle.scp_outbox.specs.scp_wire.specs.declared.message.Message.{Message}
+use Rattle.scp_outbox.specs.scp_wire.specs.declared.message.Message.TheVariants as message
+use Rattle.scp_outbox.specs.scp_wire.specs.declared.side.SideMessage.TheVariants as side
+use Rattle.scp_apply.specs.scp_pending.specs.Queues.{is_open, hash_of}
+use Rattle.scp_apply.specs.scp_pending.specs.Rules.{settled_by}
 use Rattle.scp_apply.specs.scp_ledger.specs.declared.journal.Decision.{Decision}
 use Rattle.scp_apply.specs.scp_ledger.specs.declared.journal.Fate.TheVariants.{Taken}
 use Rattle.scp_theorem.specs.Grounds.{Who, Grounds, start_of, IsLifeOf, IsOwn, IsOwnOf, IsDecided, NamesSet, AsksForSet, TellsToAsk, MaySend}

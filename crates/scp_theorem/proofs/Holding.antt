@@ -3,30 +3,30 @@ use Rattle.std.proofs.Common.{◌≡◌, ℕ, true, List, [], ◌∷◌, ◌++�
 use Rattle.std.specs.Prelude.{Some, slice_get}
 use Rattle.std.specs.List.{AllByRecursion}
 use Rattle.std.proofs.lemmas.List.{append-nil}
-use Rattle.scp_types.specs.declared.names.ConnId.{ConnId}
-use Rattle.scp_types.specs.declared.names.NodeId.{NodeId}
-use Rattle.scp_types.specs.declared.names.Seq.{Seq}
-use Rattle.scp_quorum.specs.Sane.{IsSane}
-use Rattle.scp_driver.specs.declared.driver.Level.{Level}
-use Rattle.scp_wire.specs.declared.carried.Carried.{Carried}
-use Rattle.scp_wire.specs.declared.message.Message.{Message}
-use Rattle.scp_wire.specs.declared.link.Inbound.{Inbound}
-use Rattle.scp_wire.specs.declared.link.Inbound.TheVariants as inbound
-use Rattle.scp_wire.specs.Connections.{conn_at, same_conn}
-use Rattle.scp_wire.specs.LinkReading.{unread, readings}
-use Rattle.scp_wire.specs.Marks.{messages_in}
-use Rattle.scp_wire.specs.Parts.{IsNumbered}
-use Rattle.scp_wire.specs.Shape.{HasShape, AreInOrder, nothing_came, of_peer}
-use Rattle.scp_pending.specs.declared.ready.Ready.{Ready}
-use Rattle.scp_pending.specs.declared.ready.Ready.TheVariants as ready
-use Rattle.scp_pending.specs.Causes.{Place, HasCause}
-use Rattle.scp_pending.specs.Line.{HasItsMessage, HaveMessages}
-use Rattle.scp_pending.specs.Pends.{start_of as start_by}
-use Rattle.scp_pending.specs.Rules.{Settled}
+use Rattle.scp_outbox.specs.scp_types.specs.declared.names.ConnId.{ConnId}
+use Rattle.scp_outbox.specs.scp_types.specs.declared.names.NodeId.{NodeId}
+use Rattle.scp_outbox.specs.scp_types.specs.declared.names.Seq.{Seq}
+use Rattle.scp_outbox.specs.scp_quorum.specs.Sane.{IsSane}
+use Rattle.scp_apply.specs.scp_driver.specs.declared.driver.Level.{Level}
+use Rattle.scp_outbox.specs.scp_wire.specs.declared.carried.Carried.{Carried}
+use Rattle.scp_outbox.specs.scp_wire.specs.declared.message.Message.{Message}
+use Rattle.scp_outbox.specs.scp_wire.specs.declared.link.Inbound.{Inbound}
+use Rattle.scp_outbox.specs.scp_wire.specs.declared.link.Inbound.TheVariants as inbound
+use Rattle.scp_outbox.specs.scp_wire.specs.Connections.{conn_at, same_conn}
+use Rattle.scp_outbox.specs.scp_wire.specs.LinkReading.{unread, readings}
+use Rattle.scp_outbox.specs.scp_wire.specs.Marks.{messages_in}
+use Rattle.scp_outbox.specs.scp_wire.specs.Parts.{IsNumbered}
+use Rattle.scp_outbox.specs.scp_wire.specs.Shape.{HasShape, AreInOrder, nothing_came, of_peer}
+use Rattle.scp_apply.specs.scp_pending.specs.declared.ready.Ready.{Ready}
+use Rattle.scp_apply.specs.scp_pending.specs.declared.ready.Ready.TheVariants as ready
+use Rattle.scp_apply.specs.scp_pending.specs.Causes.{Place, HasCause}
+use Rattle.scp_apply.specs.scp_pending.specs.Line.{HasItsMessage, HaveMessages}
+use Rattle.scp_apply.specs.scp_pending.specs.Pends.{start_of as start_by}
+use Rattle.scp_apply.specs.scp_pending.specs.Rules.{Settled}
 use Rattle.scp_theorem.specs.Account.{Account, Ran}
 use Rattle.scp_theorem.specs.Kept.{start_of, leaving, messages_sent, HeldAreMessages, IsLiveByPlace}
 use Rattle.scp_theorem.proofs.Causes.{left_caused, all_front}
-use Rattle.scp_theorem.proofs.Below.{Laws}
+use Rattle.scp_theorem.proofs.StageLaws.{Laws}
 
 -- ---- plain lists
 

@@ -3,20 +3,20 @@ use Rattle.std.proofs.Common.{ℕ, ◌≡◌, List, [], ◌∷◌, ◌++◌, Opt
 use Rattle.std.specs.Prelude.{IfSome, IsSomeAnd, Contains, map, option_map}
 use Rattle.std.proofs.lemmas.Grind.{flat_map-append}
 use Rattle.std.proofs.lemmas.List.Elements.{All-weaker}
-use Rattle.scp_types.specs.declared.names.ConnId.{ConnId}
-use Rattle.scp_quorum.specs.QuorumKind.{set_hash}
-use Rattle.scp_quorum.specs.SharedSet.{SharedSet}
-use Rattle.scp_driver.specs.declared.driver.Level.{Level}
-use Rattle.scp_wire.specs.declared.link.Cause.TheVariants.{ParkedFull}
-use Rattle.scp_wire.specs.declared.message.Message.{Message}
-use Rattle.scp_wire.specs.declared.message.Message.TheVariants.{Envelope, GetSet, Set, NoSet, GetRecord, Record, Records}
-use Rattle.scp_wire.specs.Lanes.{in_lane}
-use Rattle.scp_wire.specs.Marks.{Mark, number, ended, IsWhole, marks_in}
-use Rattle.scp_wire.specs.Sets.{IsSetOf}
-use Rattle.scp_pending.specs.declared.parked.Parked.{Parked}
-use Rattle.scp_pending.specs.Line.{ready_mark, marks_of as marks_ready, marks_parked, parked_mark}
-use Rattle.scp_pending.specs.Queues.{is_open, named, parked_of, seq_of}
-use Rattle.scp_pending.specs.Rules.{settled_by}
+use Rattle.scp_outbox.specs.scp_types.specs.declared.names.ConnId.{ConnId}
+use Rattle.scp_outbox.specs.scp_quorum.specs.QuorumKind.{set_hash}
+use Rattle.scp_outbox.specs.scp_quorum.specs.SharedSet.{SharedSet}
+use Rattle.scp_apply.specs.scp_driver.specs.declared.driver.Level.{Level}
+use Rattle.scp_outbox.specs.scp_wire.specs.declared.link.Cause.TheVariants.{ParkedFull}
+use Rattle.scp_outbox.specs.scp_wire.specs.declared.message.Message.{Message}
+use Rattle.scp_outbox.specs.scp_wire.specs.declared.message.Message.TheVariants.{Envelope, GetSet, Set, NoSet, GetRecord, Record, Records}
+use Rattle.scp_outbox.specs.scp_wire.specs.Lanes.{in_lane}
+use Rattle.scp_outbox.specs.scp_wire.specs.Marks.{Mark, number, ended, IsWhole, marks_in}
+use Rattle.scp_outbox.specs.scp_wire.specs.Sets.{IsSetOf}
+use Rattle.scp_apply.specs.scp_pending.specs.declared.parked.Parked.{Parked}
+use Rattle.scp_apply.specs.scp_pending.specs.Line.{ready_mark, marks_of as marks_ready, marks_parked, parked_mark}
+use Rattle.scp_apply.specs.scp_pending.specs.Queues.{is_open, named, parked_of, seq_of}
+use Rattle.scp_apply.specs.scp_pending.specs.Rules.{settled_by}
 use Rattle.scp_apply.specs.scp_ledger.specs.declared.journal.Decision.{Decision}
 use Rattle.scp_apply.specs.scp_ledger.specs.declared.journal.Fate.{Fate}
 use Rattle.scp_apply.specs.scp_ledger.specs.declared.journal.Fate.TheVariants.{Taken, Dropped, Closed}

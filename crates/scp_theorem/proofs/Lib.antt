@@ -1,4 +1,4 @@
-pub mod Below
+pub mod StageLaws
 pub mod Entries
 pub mod Causes
 pub mod Holding

@@ -7,28 +7,28 @@ use Rattle.std.specs.Ordering.{nat_cmp}
 use Rattle.std.specs.Cmp.{unsigned_tied}
 use Rattle.std.proofs.lemmas.Bool.{eqb-true, eq-eqb}
 use Rattle.std.proofs.lemmas.List.Quantifiers.{Any-push}
-use Rattle.scp_types.specs.declared.names.Hash.{Hash}
-use Rattle.scp_types.specs.declared.names.NodeId.{NodeId}
-use Rattle.scp_types.specs.declared.names.Slot.{Slot}
-use Rattle.scp_quorum.specs.QuorumTree.{QuorumTree}
-use Rattle.scp_quorum.specs.QuorumKind.{set_hash}
-use Rattle.scp_driver.specs.declared.driver.Level.{Level}
-use Rattle.scp_envelope.specs.Newer.{ArePledgesNewer, IsNewer}
-use Rattle.scp_envelope.specs.declared.statement.Envelope.{Envelope as Enveloped}
-use Rattle.scp_envelope.specs.declared.statement.Pledges.{Pledges}
-use Rattle.scp_envelope.specs.declared.statement.Pledges.TheVariants.{Prepare, Confirm, Externalize, Nominate}
-use Rattle.scp_envelope.specs.declared.statement.Statement.{Statement}
-use Rattle.scp_envelope.proofs.NewerLaws.{transitive}
-use Rattle.scp_vote.specs.Licence.{IsExternalize}
+use Rattle.scp_outbox.specs.scp_types.specs.declared.names.Hash.{Hash}
+use Rattle.scp_outbox.specs.scp_types.specs.declared.names.NodeId.{NodeId}
+use Rattle.scp_outbox.specs.scp_types.specs.declared.names.Slot.{Slot}
+use Rattle.scp_outbox.specs.scp_quorum.specs.QuorumTree.{QuorumTree}
+use Rattle.scp_outbox.specs.scp_quorum.specs.QuorumKind.{set_hash}
+use Rattle.scp_apply.specs.scp_driver.specs.declared.driver.Level.{Level}
+use Rattle.scp_outbox.specs.scp_envelope.specs.Newer.{ArePledgesNewer, IsNewer}
+use Rattle.scp_outbox.specs.scp_envelope.specs.declared.statement.Envelope.{Envelope as Enveloped}
+use Rattle.scp_outbox.specs.scp_envelope.specs.declared.statement.Pledges.{Pledges}
+use Rattle.scp_outbox.specs.scp_envelope.specs.declared.statement.Pledges.TheVariants.{Prepare, Confirm, Externalize, Nominate}
+use Rattle.scp_outbox.specs.scp_envelope.specs.declared.statement.Statement.{Statement}
+use Rattle.scp_outbox.specs.scp_envelope.proofs.NewerLaws.{transitive}
+use Rattle.scp_apply.specs.scp_vote.specs.Licence.{IsExternalize}
 use Rattle.scp_outbox.specs.Outbox.{is_nomination, same_bool, are_alike}
-use Rattle.scp_nominate.specs.Nomination as nominate
-use Rattle.scp_ballot.specs.declared.balloted.Certified.{Certified}
-use Rattle.scp_ballot.specs.Balloting as ballot
-use Rattle.scp_pending.specs.Queues.{hash_of}
-use Rattle.scp_slot.specs.declared.machine.SlotMachine.{SlotMachine}
-use Rattle.scp_slot.specs.declared.output.SlotInput.{SlotInput}
-use Rattle.scp_slot.specs.declared.output.SlotOutput.{SlotOutput}
-use Rattle.scp_slot.specs.Slot.{SlotView, slot_view, driver_of, Begins}
+use Rattle.scp_apply.specs.scp_nominate.specs.Nomination as nominate
+use Rattle.scp_apply.specs.scp_ballot.specs.declared.balloted.Certified.{Certified}
+use Rattle.scp_apply.specs.scp_ballot.specs.Balloting as ballot
+use Rattle.scp_apply.specs.scp_pending.specs.Queues.{hash_of}
+use Rattle.scp_apply.specs.scp_slot.specs.declared.machine.SlotMachine.{SlotMachine}
+use Rattle.scp_apply.specs.scp_slot.specs.declared.output.SlotInput.{SlotInput}
+use Rattle.scp_apply.specs.scp_slot.specs.declared.output.SlotOutput.{SlotOutput}
+use Rattle.scp_apply.specs.scp_slot.specs.Slot.{SlotView, slot_view, driver_of, Begins}
 use Rattle.scp_apply.specs.scp_ledger.specs.declared.journal.Decision.{Decision}
 use Rattle.scp_apply.specs.scp_ledger.specs.declared.journal.Fate.{Fate}
 use Rattle.scp_apply.specs.scp_ledger.specs.declared.journal.Origin.TheVariants.{Machine}

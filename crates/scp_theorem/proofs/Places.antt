@@ -5,9 +5,9 @@ use Rattle.std.specs.List.{list_any, position_or_len}
 use Rattle.std.specs.Cmp.Lexicographic.{same_text}
 use Rattle.std.proofs.lemmas.Bool.{lt-ltb}
 use Rattle.std.proofs.lemmas.List.Quantifiers.{position-Some}
-use Rattle.scp_types.specs.declared.names.ConnId.{ConnId}
-use Rattle.scp_types.specs.declared.names.NodeId.{NodeId}
-use Rattle.scp_wire.specs.Connections.{conn_at, same_node}
+use Rattle.scp_outbox.specs.scp_types.specs.declared.names.ConnId.{ConnId}
+use Rattle.scp_outbox.specs.scp_types.specs.declared.names.NodeId.{NodeId}
+use Rattle.scp_outbox.specs.scp_wire.specs.Connections.{conn_at, same_node}
 use Rattle.scp_theorem.specs.Fates.{IsOfLink}
 use Rattle.scp_theorem.specs.Grounds.{Who, IsLifeOf}
 use Rattle.scp_theorem.proofs.Basics.{there_is, peer_is}

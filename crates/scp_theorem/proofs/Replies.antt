@@ -2,17 +2,17 @@
 use Rattle.std.proofs.Common.{◌≡◌, ℕ, List, [], ◌∷◌, ◌++◌, refl, sym, ◌∙◌, ap, subst}
 use Rattle.std.specs.Prelude.{Option, Some, None, Any, slice_get}
 use Rattle.std.proofs.lemmas.List.Quantifiers.{Any-push}
-use Rattle.scp_types.specs.declared.names.ConnId.{ConnId}
-use Rattle.scp_types.specs.declared.names.Hash.{Hash}
-use Rattle.scp_types.specs.declared.names.NodeId.{NodeId}
-use Rattle.scp_wire.specs.declared.message.Message.{Message}
-use Rattle.scp_wire.specs.declared.message.Message.TheVariants.{Envelope, GetSet, Set, NoSet, GetRecord, Record, Records}
-use Rattle.scp_wire.specs.declared.link.Inbound.{Inbound}
-use Rattle.scp_wire.specs.declared.link.Inbound.TheVariants as inbound
-use Rattle.scp_wire.specs.Connections.{conn_at}
-use Rattle.scp_pending.specs.Fetching.{IsToBeAsked, IsAskedFor, IsReplied, IfReplied, RepliesAreAskedFor}
-use Rattle.scp_pending.specs.Linked.{NothingIsOfAStranger, WhoItIsStays}
-use Rattle.scp_pending.specs.Rules.{Settled, settled_by, reply}
+use Rattle.scp_outbox.specs.scp_types.specs.declared.names.ConnId.{ConnId}
+use Rattle.scp_outbox.specs.scp_types.specs.declared.names.Hash.{Hash}
+use Rattle.scp_outbox.specs.scp_types.specs.declared.names.NodeId.{NodeId}
+use Rattle.scp_outbox.specs.scp_wire.specs.declared.message.Message.{Message}
+use Rattle.scp_outbox.specs.scp_wire.specs.declared.message.Message.TheVariants.{Envelope, GetSet, Set, NoSet, GetRecord, Record, Records}
+use Rattle.scp_outbox.specs.scp_wire.specs.declared.link.Inbound.{Inbound}
+use Rattle.scp_outbox.specs.scp_wire.specs.declared.link.Inbound.TheVariants as inbound
+use Rattle.scp_outbox.specs.scp_wire.specs.Connections.{conn_at}
+use Rattle.scp_apply.specs.scp_pending.specs.Fetching.{IsToBeAsked, IsAskedFor, IsReplied, IfReplied, RepliesAreAskedFor}
+use Rattle.scp_apply.specs.scp_pending.specs.Linked.{NothingIsOfAStranger, WhoItIsStays}
+use Rattle.scp_apply.specs.scp_pending.specs.Rules.{Settled, settled_by, reply}
 use Rattle.scp_theorem.specs.Grounds.{Grounds, start_of, IsLifeOf, NamesSet, AsksForSet}
 use Rattle.scp_theorem.specs.Laws.{MayAnswer}
 use Rattle.scp_theorem.proofs.Growing.{Grows, may_more}

@@ -1,6 +1,6 @@
 -- There are runs.
 use Rattle.std.proofs.Common.{ℕ, List, [], refl, Option}
-use Rattle.scp_driver.specs.declared.driver.Level.{Level}
+use Rattle.scp_apply.specs.scp_driver.specs.declared.driver.Level.{Level}
 use Rattle.scp_theorem.specs.Runs.{NothingSentRan}
 
 pub nothing_sent_ran : {D : Type 0} (level : D → ℕ → List ℕ → Level) (extracted : D → ℕ → List ℕ → Option (List ℕ)) (combined : D → ℕ → List (List ℕ) → List ℕ) (place : D → ℕ → ℕ → ℕ → ℕ) → NothingSentRan level extracted combined place

@@ -1,11 +1,11 @@
 -- What a slot stage and an applier took, one thing after another: with one thing more, and what their own contracts say of all of it.
 use Rattle.std.proofs.Common.{◌≡◌, List, [], ◌∷◌, ◌++◌, refl, sym, ◌∙◌, ap, subst, append-nil, append_assoc}
 use Rattle.std.specs.Prelude.{ℕ, Option, option_to_list}
-use Rattle.scp_driver.specs.Driver.{Says}
-use Rattle.scp_types.specs.declared.names.NodeId.{NodeId}
-use Rattle.scp_quorum.specs.QuorumTree.{QuorumTree}
-use Rattle.scp_wire.specs.declared.message.Message.{Message}
-use Rattle.scp_pending.specs.declared.ready.Ready.{Ready}
+use Rattle.scp_apply.specs.scp_driver.specs.Driver.{Says}
+use Rattle.scp_outbox.specs.scp_types.specs.declared.names.NodeId.{NodeId}
+use Rattle.scp_outbox.specs.scp_quorum.specs.QuorumTree.{QuorumTree}
+use Rattle.scp_outbox.specs.scp_wire.specs.declared.message.Message.{Message}
+use Rattle.scp_apply.specs.scp_pending.specs.declared.ready.Ready.{Ready}
 use Rattle.scp_apply.specs.scp_ledger.specs.declared.took.Onward.{Onward}
 use Rattle.scp_apply.specs.scp_ledger.specs.declared.took.Outgoing.{Outgoing}
 use Rattle.scp_apply.specs.scp_ledger.specs.By.{JournalsBy}

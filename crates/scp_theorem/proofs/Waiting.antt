@@ -1,16 +1,16 @@
 -- In each slot what waits is led by an envelope whose quorum set isn't stored.
 use Rattle.std.proofs.Common.{◌≡◌, ℕ, Bool, true, false, cond, List, [], ◌∷◌, Option, Some, None, refl, sym, ◌∙◌, ap, subst, nat_eq}
 use Rattle.std.specs.Prelude.{IsSomeAnd, is_some, map}
-use Rattle.scp_types.specs.declared.names.ConnId.{ConnId}
-use Rattle.scp_types.specs.declared.names.Hash.{Hash}
-use Rattle.scp_wire.specs.declared.message.Message.{Message}
-use Rattle.scp_fetch.specs.Store.{StoreView, lookup}
-use Rattle.scp_pending.specs.declared.parked.Parked.{Parked}
-use Rattle.scp_pending.specs.declared.parked.Parked.TheVariants.{Waits, Free, Lost}
-use Rattle.scp_pending.specs.Independence.{IsLed, AreLed}
-use Rattle.scp_pending.specs.Independence.{LacksItsSet as IsNotStored}
-use Rattle.scp_pending.specs.Queues.{named, parked_of, lane_of, at_slot}
-use Rattle.scp_pending.specs.Rules.{Settled}
+use Rattle.scp_outbox.specs.scp_types.specs.declared.names.ConnId.{ConnId}
+use Rattle.scp_outbox.specs.scp_types.specs.declared.names.Hash.{Hash}
+use Rattle.scp_outbox.specs.scp_wire.specs.declared.message.Message.{Message}
+use Rattle.scp_apply.specs.scp_fetch.specs.Store.{StoreView, lookup}
+use Rattle.scp_apply.specs.scp_pending.specs.declared.parked.Parked.{Parked}
+use Rattle.scp_apply.specs.scp_pending.specs.declared.parked.Parked.TheVariants.{Waits, Free, Lost}
+use Rattle.scp_apply.specs.scp_pending.specs.Independence.{IsLed, AreLed}
+use Rattle.scp_apply.specs.scp_pending.specs.Independence.{LacksItsSet as IsNotStored}
+use Rattle.scp_apply.specs.scp_pending.specs.Queues.{named, parked_of, lane_of, at_slot}
+use Rattle.scp_apply.specs.scp_pending.specs.Rules.{Settled}
 use Rattle.scp_theorem.specs.Books.{waiter_of}
 use Rattle.scp_theorem.specs.Headline.{Waiter, LacksItsSet, of_slot}
 

@@ -1,15 +1,15 @@
 -- What was sent to a node, where it is, and what the node's stages made of it, in plain lists.
 use Rattle.std.specs.Prelude.{ℕ, ◌≡◌, List, ◌++◌, Some, slice_get, Option}
-use Rattle.scp_types.specs.declared.names.NodeId.{NodeId}
-use Rattle.scp_quorum.specs.QuorumTree.{QuorumTree}
-use Rattle.scp_driver.specs.declared.driver.Level.{Level}
-use Rattle.scp_wire.specs.declared.link.LinkItem.{LinkItem}
-use Rattle.scp_wire.specs.declared.link.Inbound.{Inbound}
-use Rattle.scp_wire.specs.LinkReading.{unread, readings}
-use Rattle.scp_wire.specs.Shape.{AreOfLink, never_open, of_peer}
-use Rattle.scp_pending.specs.declared.ready.Ready.{Ready}
-use Rattle.scp_pending.specs.Pends.{Pends}
-use Rattle.scp_pending.specs.Rules.{PendingView}
+use Rattle.scp_outbox.specs.scp_types.specs.declared.names.NodeId.{NodeId}
+use Rattle.scp_outbox.specs.scp_quorum.specs.QuorumTree.{QuorumTree}
+use Rattle.scp_apply.specs.scp_driver.specs.declared.driver.Level.{Level}
+use Rattle.scp_outbox.specs.scp_wire.specs.declared.link.LinkItem.{LinkItem}
+use Rattle.scp_outbox.specs.scp_wire.specs.declared.link.Inbound.{Inbound}
+use Rattle.scp_outbox.specs.scp_wire.specs.LinkReading.{unread, readings}
+use Rattle.scp_outbox.specs.scp_wire.specs.Shape.{AreOfLink, never_open, of_peer}
+use Rattle.scp_apply.specs.scp_pending.specs.declared.ready.Ready.{Ready}
+use Rattle.scp_apply.specs.scp_pending.specs.Pends.{Pends}
+use Rattle.scp_apply.specs.scp_pending.specs.Rules.{PendingView}
 use Rattle.scp_apply.specs.scp_ledger.specs.declared.took.Onward.{Onward}
 use Rattle.scp_apply.specs.scp_ledger.specs.Journals.{Journals}
 use Rattle.scp_apply.specs.scp_ledger.specs.Seen.{LedgerView}

@@ -1,15 +1,15 @@
 -- How a node's books are read off its account, and that the headline follows from the ledger theorem.
 use Rattle.std.specs.Prelude.{ℕ, List, ◌++◌, Option, map, is_some}
-use Rattle.scp_types.specs.declared.limits.TheConstants.{CARRIED_LIMIT}
-use Rattle.scp_driver.specs.declared.driver.Level.{Level}
-use Rattle.scp_wire.specs.declared.message.Message.{Message}
-use Rattle.scp_wire.specs.Marks.{marks_in}
-use Rattle.scp_wire.specs.Sent.{sent, is_closed, carried_of, end_of}
-use Rattle.scp_fetch.specs.Store.{lookup}
-use Rattle.scp_pending.specs.declared.parked.Parked.{Parked}
-use Rattle.scp_pending.specs.declared.parked.Parked.TheVariants.{Waits, Free, Lost}
-use Rattle.scp_pending.specs.Line.{marks_of}
-use Rattle.scp_pending.specs.Queues.{parked_of, seq_of}
+use Rattle.scp_outbox.specs.scp_types.specs.declared.limits.TheConstants.{CARRIED_LIMIT}
+use Rattle.scp_apply.specs.scp_driver.specs.declared.driver.Level.{Level}
+use Rattle.scp_outbox.specs.scp_wire.specs.declared.message.Message.{Message}
+use Rattle.scp_outbox.specs.scp_wire.specs.Marks.{marks_in}
+use Rattle.scp_outbox.specs.scp_wire.specs.Sent.{sent, is_closed, carried_of, end_of}
+use Rattle.scp_apply.specs.scp_fetch.specs.Store.{lookup}
+use Rattle.scp_apply.specs.scp_pending.specs.declared.parked.Parked.{Parked}
+use Rattle.scp_apply.specs.scp_pending.specs.declared.parked.Parked.TheVariants.{Waits, Free, Lost}
+use Rattle.scp_apply.specs.scp_pending.specs.Line.{marks_of}
+use Rattle.scp_apply.specs.scp_pending.specs.Queues.{parked_of, seq_of}
 use Rattle.scp_theorem.specs.Account.{Account}
 use Rattle.scp_theorem.specs.Kept.{KeepsLedger}
 use Rattle.scp_theorem.specs.Headline.{Waiter, Books, Headline}

@@ -1,17 +1,17 @@
 -- A connection's fates, in order, and each with its cause.
 use Rattle.std.specs.Prelude.{ℕ, ◌≡◌, true, List, Some, slice_get, option_map, flat_map}
 use Rattle.std.specs.List.{AllByRecursion}
-use Rattle.scp_types.specs.declared.names.ConnId.{ConnId}
-use Rattle.scp_wire.specs.declared.message.Message.{Message}
-use Rattle.scp_wire.specs.declared.link.Inbound.{Inbound}
-use Rattle.scp_wire.specs.Connections.{same_conn}
-use Rattle.scp_wire.specs.Marks.{one_if}
-use Rattle.scp_wire.specs.Lanes.{slots_of, in_lane, lane_numbers, FollowsIn}
-use Rattle.scp_pending.specs.declared.ready.Ready.TheVariants as ready
-use Rattle.scp_pending.specs.Rules.{Settled}
-use Rattle.scp_pending.specs.Causes.{IsTaken, HasCause}
-use Rattle.scp_pending.specs.Endings.{Way, went, over, way_by}
-pub use Rattle.scp_pending.specs.Linked.{is_among, IsOfLink}
+use Rattle.scp_outbox.specs.scp_types.specs.declared.names.ConnId.{ConnId}
+use Rattle.scp_outbox.specs.scp_wire.specs.declared.message.Message.{Message}
+use Rattle.scp_outbox.specs.scp_wire.specs.declared.link.Inbound.{Inbound}
+use Rattle.scp_outbox.specs.scp_wire.specs.Connections.{same_conn}
+use Rattle.scp_outbox.specs.scp_wire.specs.Marks.{one_if}
+use Rattle.scp_outbox.specs.scp_wire.specs.Lanes.{slots_of, in_lane, lane_numbers, FollowsIn}
+use Rattle.scp_apply.specs.scp_pending.specs.declared.ready.Ready.TheVariants as ready
+use Rattle.scp_apply.specs.scp_pending.specs.Rules.{Settled}
+use Rattle.scp_apply.specs.scp_pending.specs.Causes.{IsTaken, HasCause}
+use Rattle.scp_apply.specs.scp_pending.specs.Endings.{Way, went, over, way_by}
+pub use Rattle.scp_apply.specs.scp_pending.specs.Linked.{is_among, IsOfLink}
 use Rattle.scp_apply.specs.scp_ledger.specs.declared.journal.Fate.{Fate}
 use Rattle.scp_apply.specs.scp_ledger.specs.declared.journal.Fate.TheVariants.{Taken, Dropped, Closed}
 use Rattle.scp_apply.specs.scp_ledger.specs.Marks.{marks_of as marks_on}

@@ -1,30 +1,30 @@
 -- What a node may send to the peer of a link, and what that rests on (this project's profile).
 use Rattle.std.specs.Prelude.{ℕ, ◌≡◌, true, List, [], ◌∷◌, ◌++◌, Option, Some, All, Any, Contains, slice_get}
 use Rattle.std.specs.List.{AllZip}
-use Rattle.scp_types.specs.declared.names.ConnId.{ConnId}
-use Rattle.scp_types.specs.declared.names.Hash.{Hash}
-use Rattle.scp_types.specs.declared.names.NodeId.{NodeId}
-use Rattle.scp_types.specs.declared.names.Seq.{Seq}
-use Rattle.scp_types.specs.declared.names.Slot.{Slot}
-use Rattle.scp_quorum.specs.QuorumTree.{QuorumTree}
-use Rattle.scp_quorum.specs.SharedSet.{SharedSet}
-use Rattle.scp_envelope.specs.Kinds.{set_hash_of}
-use Rattle.scp_envelope.specs.Sane.{IsSane}
-use Rattle.scp_envelope.specs.declared.statement.Envelope.{Envelope as Enveloped}
-use Rattle.scp_envelope.specs.declared.statement.Pledges.{Pledges}
-use Rattle.scp_envelope.specs.declared.statement.Pledges.TheVariants.{Prepare, Confirm, Externalize, Nominate}
-use Rattle.scp_wire.specs.Connections.{conn_at}
-use Rattle.scp_wire.specs.Message.{message_value, SpellsMessage}
-use Rattle.scp_wire.specs.declared.link.Command.{Command}
-use Rattle.scp_wire.specs.declared.link.Command.TheVariants.{Propose, Round, Timer, Tick, Ask}
-use Rattle.scp_wire.specs.declared.link.Inbound.{Inbound}
-use Rattle.scp_wire.specs.declared.link.Inbound.TheVariants as inbound
-use Rattle.scp_wire.specs.declared.message.Message.{Message}
-use Rattle.scp_wire.specs.declared.message.Message.TheVariants as message
-use Rattle.scp_wire.specs.declared.side.SideMessage.TheVariants as side
+use Rattle.scp_outbox.specs.scp_types.specs.declared.names.ConnId.{ConnId}
+use Rattle.scp_outbox.specs.scp_types.specs.declared.names.Hash.{Hash}
+use Rattle.scp_outbox.specs.scp_types.specs.declared.names.NodeId.{NodeId}
+use Rattle.scp_outbox.specs.scp_types.specs.declared.names.Seq.{Seq}
+use Rattle.scp_outbox.specs.scp_types.specs.declared.names.Slot.{Slot}
+use Rattle.scp_outbox.specs.scp_quorum.specs.QuorumTree.{QuorumTree}
+use Rattle.scp_outbox.specs.scp_quorum.specs.SharedSet.{SharedSet}
+use Rattle.scp_outbox.specs.scp_envelope.specs.Kinds.{set_hash_of}
+use Rattle.scp_outbox.specs.scp_envelope.specs.Sane.{IsSane}
+use Rattle.scp_outbox.specs.scp_envelope.specs.declared.statement.Envelope.{Envelope as Enveloped}
+use Rattle.scp_outbox.specs.scp_envelope.specs.declared.statement.Pledges.{Pledges}
+use Rattle.scp_outbox.specs.scp_envelope.specs.declared.statement.Pledges.TheVariants.{Prepare, Confirm, Externalize, Nominate}
+use Rattle.scp_outbox.specs.scp_wire.specs.Connections.{conn_at}
+use Rattle.scp_outbox.specs.scp_wire.specs.Message.{message_value, SpellsMessage}
+use Rattle.scp_outbox.specs.scp_wire.specs.declared.link.Command.{Command}
+use Rattle.scp_outbox.specs.scp_wire.specs.declared.link.Command.TheVariants.{Propose, Round, Timer, Tick, Ask}
+use Rattle.scp_outbox.specs.scp_wire.specs.declared.link.Inbound.{Inbound}
+use Rattle.scp_outbox.specs.scp_wire.specs.declared.link.Inbound.TheVariants as inbound
+use Rattle.scp_outbox.specs.scp_wire.specs.declared.message.Message.{Message}
+use Rattle.scp_outbox.specs.scp_wire.specs.declared.message.Message.TheVariants as message
+use Rattle.scp_outbox.specs.scp_wire.specs.declared.side.SideMessage.TheVariants as side
 use Rattle.scp_outbox.specs.Sent.{AreNewer}
-use Rattle.scp_pending.specs.Queues.{is_open, named, hash_of}
-use Rattle.scp_pending.specs.Rules.{Settled, fresh, settled_by}
+use Rattle.scp_apply.specs.scp_pending.specs.Queues.{is_open, named, hash_of}
+use Rattle.scp_apply.specs.scp_pending.specs.Rules.{Settled, fresh, settled_by}
 use Rattle.scp_apply.specs.scp_ledger.specs.declared.journal.Decision.{Decision}
 use Rattle.scp_apply.specs.scp_ledger.specs.declared.journal.Fate.{Fate}
 use Rattle.scp_apply.specs.scp_ledger.specs.declared.journal.Fate.TheVariants.{Taken}

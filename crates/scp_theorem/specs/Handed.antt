@@ -1,11 +1,11 @@
 -- What the stages of a node hand out for its links (this project's profile).
 use Rattle.std.specs.Prelude.{◌≡◌, ℕ, false, List, [], ◌∷◌, ◌++◌, Option, Some, None, flat_map}
-use Rattle.scp_driver.specs.Driver.{Says}
-use Rattle.scp_wire.specs.declared.link.Inbound.{Inbound}
-use Rattle.scp_wire.specs.declared.message.Message.{Message}
-use Rattle.scp_wire.specs.declared.message.Message.TheVariants.{Envelope}
+use Rattle.scp_apply.specs.scp_driver.specs.Driver.{Says}
+use Rattle.scp_outbox.specs.scp_wire.specs.declared.link.Inbound.{Inbound}
+use Rattle.scp_outbox.specs.scp_wire.specs.declared.message.Message.{Message}
+use Rattle.scp_outbox.specs.scp_wire.specs.declared.message.Message.TheVariants.{Envelope}
 use Rattle.scp_outbox.specs.Handing.{to_link}
-use Rattle.scp_pending.specs.Rules.{Settled, rules, reply}
+use Rattle.scp_apply.specs.scp_pending.specs.Rules.{Settled, rules, reply}
 use Rattle.scp_apply.specs.scp_ledger.specs.declared.took.Onward.{Onward}
 use Rattle.scp_apply.specs.scp_ledger.specs.declared.took.Outgoing.{Outgoing}
 use Rattle.scp_apply.specs.scp_ledger.specs.declared.took.Outgoing.TheVariants.{ToAll, To}
@@ -60,9 +60,9 @@ module _ {D : Type 0} (says : Says D) where
   ServesEach old [] new = new ≡ old
   ServesEach old (t ∷ takes) new = (between : LedgerView D) × Serves old t between × ServesEach between takes new
 
--- an applier of this first slot that took nothing
-abbrev pub nothing_applied : ℕ → ApplierView
-nothing_applied first = record { first = first; failed = false; applied = []; buffer = [] }
+-- an applier that took nothing, and began with this first slot and with the state that these bytes say
+abbrev pub nothing_applied : ℕ → List ℕ → ApplierView
+nothing_applied first base = record { first = first; base = base; failed = false; applied = []; buffer = [] }
 
 -- An applier took this thing, gave this answer, and is the new one then. The new one runs, so the slot that is next isn't buffered.
 pub record Answers (old : ApplierView) (x : Onward) (answer : Option (ℕ × Message)) (new : ApplierView) : Type 0 where

@@ -2,22 +2,22 @@
 use Rattle.std.specs.Prelude.{ℕ, ◌+◌, ◌≡◌, false, Bool, List, [], ◌∷◌, ◌++◌, Option, Some, nat_eq, slice_get, map, flat_map, filter, option_to_list, All, Contains, IsSomeAnd, IfSome}
 use Rattle.std.specs.List.{AllByRecursion, range_with_len}
 use Rattle.std.specs.List.Sorted.{IsPermutation}
-use Rattle.scp_types.specs.declared.names.ConnId.{ConnId}
-use Rattle.scp_types.specs.declared.names.Hash.{Hash}
-use Rattle.scp_types.specs.declared.names.NodeId.{NodeId}
-use Rattle.scp_quorum.specs.QuorumTree.{QuorumTree}
-use Rattle.scp_quorum.specs.QuorumKind.{set_hash}
-use Rattle.scp_quorum.specs.SharedSet.{SharedSet}
-use Rattle.scp_vote.specs.declared.claim.StatementKind.TheVariants.{Balloting}
-use Rattle.scp_wire.specs.declared.link.Cause.{Cause}
-use Rattle.scp_wire.specs.declared.link.Cause.TheVariants.{ParkedFull}
-use Rattle.scp_wire.specs.declared.message.Message.{Message}
-use Rattle.scp_wire.specs.declared.message.Message.TheVariants.{Record}
-use Rattle.scp_wire.specs.Connections.{conn_at}
-use Rattle.scp_wire.specs.Lanes.{slot_of, slots_of, in_lane}
-use Rattle.scp_wire.specs.Marks.{Mark, number, ended, IsWhole}
-use Rattle.scp_wire.specs.Sent.{numbers}
-use Rattle.scp_pending.specs.Queues.{named}
+use Rattle.scp_outbox.specs.scp_types.specs.declared.names.ConnId.{ConnId}
+use Rattle.scp_outbox.specs.scp_types.specs.declared.names.Hash.{Hash}
+use Rattle.scp_outbox.specs.scp_types.specs.declared.names.NodeId.{NodeId}
+use Rattle.scp_outbox.specs.scp_quorum.specs.QuorumTree.{QuorumTree}
+use Rattle.scp_outbox.specs.scp_quorum.specs.QuorumKind.{set_hash}
+use Rattle.scp_outbox.specs.scp_quorum.specs.SharedSet.{SharedSet}
+use Rattle.scp_apply.specs.scp_vote.specs.declared.claim.StatementKind.TheVariants.{Balloting}
+use Rattle.scp_outbox.specs.scp_wire.specs.declared.link.Cause.{Cause}
+use Rattle.scp_outbox.specs.scp_wire.specs.declared.link.Cause.TheVariants.{ParkedFull}
+use Rattle.scp_outbox.specs.scp_wire.specs.declared.message.Message.{Message}
+use Rattle.scp_outbox.specs.scp_wire.specs.declared.message.Message.TheVariants.{Record}
+use Rattle.scp_outbox.specs.scp_wire.specs.Connections.{conn_at}
+use Rattle.scp_outbox.specs.scp_wire.specs.Lanes.{slot_of, slots_of, in_lane}
+use Rattle.scp_outbox.specs.scp_wire.specs.Marks.{Mark, number, ended, IsWhole}
+use Rattle.scp_outbox.specs.scp_wire.specs.Sent.{numbers}
+use Rattle.scp_apply.specs.scp_pending.specs.Queues.{named}
 use Rattle.scp_apply.specs.scp_ledger.specs.declared.journal.Decision.{Decision}
 use Rattle.scp_apply.specs.scp_ledger.specs.declared.journal.Fate.{Fate}
 use Rattle.scp_apply.specs.scp_ledger.specs.declared.journal.Fate.TheVariants.{Taken, Dropped, Closed}
@@ -134,8 +134,8 @@ pub record Headline (b : Books) : Type 0 where
   pub in_order : AreInOrder b.first b.applied
   pub decided : All (Contains b.decisions) b.applied
 
--- The headline, and the state that is read, if one is: it is what the application makes of the applied values, one after another, from its first
--- state on.
+-- The headline, and the state that is read, if one is: it is what the application makes of the applied values, one after another, from the state
+-- on with which the node began.
 pub record HeadlineWithState {S : Type 0} (start : S) (after' : S → List ℕ → S) (b : Books) (state : Option S) : Type 0 where
   pub headline : Headline b
   pub state_is : IfSome state (λ s. s ≡ made_of start after' b.applied)

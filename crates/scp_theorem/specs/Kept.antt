@@ -2,33 +2,33 @@
 use Rattle.std.specs.Prelude.{ℕ, ◌≡◌, ◌≢◌, ◌≤◌, true, not, ◌&&◌, List, [], ◌∷◌, ◌++◌, Some, All, Contains, length, slice_get, map, flat_map, fold, Option}
 use Rattle.std.specs.List.{AllByRecursion}
 use Rattle.std.specs.List.Sorted.{IsPermutation}
-use Rattle.scp_types.specs.declared.limits.TheConstants.{CARRIED_LIMIT}
-use Rattle.scp_types.specs.declared.names.ConnId.{ConnId}
-use Rattle.scp_types.specs.declared.names.NodeId.{NodeId}
-use Rattle.scp_driver.specs.declared.driver.Level.{Level}
-use Rattle.scp_quorum.specs.Sane.{IsSane}
-use Rattle.scp_wire.specs.declared.carried.Carried.{Carried}
-use Rattle.scp_wire.specs.declared.message.Message.{Message}
-use Rattle.scp_wire.specs.declared.link.Command.{Command}
-use Rattle.scp_wire.specs.declared.link.Command.TheVariants.{Ask}
-use Rattle.scp_wire.specs.declared.link.Inbound.{Inbound}
-use Rattle.scp_wire.specs.declared.link.Inbound.TheVariants as inbound
-use Rattle.scp_wire.specs.Connections.{conn_at}
-use Rattle.scp_wire.specs.LinkReading.{unread, readings}
-use Rattle.scp_wire.specs.Parts.{IsNumbered}
-use Rattle.scp_wire.specs.Shape.{AreOfLink, never_open, comes, nothing_came, of_peer}
-use Rattle.scp_wire.specs.Lanes.{slots_of, in_lane}
-use Rattle.scp_wire.specs.Marks.{Mark, marks_in, IsWhole}
-use Rattle.scp_wire.specs.Sent.{sent, is_closed, carried_of, line_of_sent}
-use Rattle.scp_pending.specs.declared.ready.Ready.{Ready}
-use Rattle.scp_pending.specs.Independence.{MayPass, StandsDelivered, AreLed}
-use Rattle.scp_pending.specs.Endings.{Exits, ways, commands_in, commands_of}
-use Rattle.scp_pending.specs.Line.{marks_of, held, HaveMessages}
-use Rattle.scp_pending.specs.Living.{stands, is_cut_off}
-use Rattle.scp_pending.specs.Messages.{AreParked}
-use Rattle.scp_pending.specs.Placing.{StandsAt}
-use Rattle.scp_pending.specs.Queues.{is_open}
-use Rattle.scp_pending.specs.Rules.{Settled, fresh, settled_by, released_by}
+use Rattle.scp_outbox.specs.scp_types.specs.declared.limits.TheConstants.{CARRIED_LIMIT}
+use Rattle.scp_outbox.specs.scp_types.specs.declared.names.ConnId.{ConnId}
+use Rattle.scp_outbox.specs.scp_types.specs.declared.names.NodeId.{NodeId}
+use Rattle.scp_apply.specs.scp_driver.specs.declared.driver.Level.{Level}
+use Rattle.scp_outbox.specs.scp_quorum.specs.Sane.{IsSane}
+use Rattle.scp_outbox.specs.scp_wire.specs.declared.carried.Carried.{Carried}
+use Rattle.scp_outbox.specs.scp_wire.specs.declared.message.Message.{Message}
+use Rattle.scp_outbox.specs.scp_wire.specs.declared.link.Command.{Command}
+use Rattle.scp_outbox.specs.scp_wire.specs.declared.link.Command.TheVariants.{Ask}
+use Rattle.scp_outbox.specs.scp_wire.specs.declared.link.Inbound.{Inbound}
+use Rattle.scp_outbox.specs.scp_wire.specs.declared.link.Inbound.TheVariants as inbound
+use Rattle.scp_outbox.specs.scp_wire.specs.Connections.{conn_at}
+use Rattle.scp_outbox.specs.scp_wire.specs.LinkReading.{unread, readings}
+use Rattle.scp_outbox.specs.scp_wire.specs.Parts.{IsNumbered}
+use Rattle.scp_outbox.specs.scp_wire.specs.Shape.{AreOfLink, never_open, comes, nothing_came, of_peer}
+use Rattle.scp_outbox.specs.scp_wire.specs.Lanes.{slots_of, in_lane}
+use Rattle.scp_outbox.specs.scp_wire.specs.Marks.{Mark, marks_in, IsWhole}
+use Rattle.scp_outbox.specs.scp_wire.specs.Sent.{sent, is_closed, carried_of, line_of_sent}
+use Rattle.scp_apply.specs.scp_pending.specs.declared.ready.Ready.{Ready}
+use Rattle.scp_apply.specs.scp_pending.specs.Independence.{MayPass, StandsDelivered, AreLed}
+use Rattle.scp_apply.specs.scp_pending.specs.Endings.{Exits, ways, commands_in, commands_of}
+use Rattle.scp_apply.specs.scp_pending.specs.Line.{marks_of, held, HaveMessages}
+use Rattle.scp_apply.specs.scp_pending.specs.Living.{stands, is_cut_off}
+use Rattle.scp_apply.specs.scp_pending.specs.Messages.{AreParked}
+use Rattle.scp_apply.specs.scp_pending.specs.Placing.{StandsAt}
+use Rattle.scp_apply.specs.scp_pending.specs.Queues.{is_open}
+use Rattle.scp_apply.specs.scp_pending.specs.Rules.{Settled, fresh, settled_by, released_by}
 use Rattle.scp_apply.specs.scp_ledger.specs.declared.journal.Asking.{Asking}
 use Rattle.scp_apply.specs.scp_ledger.specs.declared.journal.TheConstants.{JOURNAL_LIMIT}
 use Rattle.scp_apply.specs.scp_ledger.specs.Decisions.{OnePerSlot, AreInWindow, IsFounded, HasItsDecision, IsLowest}

@@ -1,7 +1,7 @@
 -- What a node's stages hand out may be sent.
 use Rattle.std.specs.Prelude.{◌≡◌, ℕ, List, All, None}
-use Rattle.scp_driver.specs.Driver.{Says}
-use Rattle.scp_wire.specs.declared.message.Message.{Message}
+use Rattle.scp_apply.specs.scp_driver.specs.Driver.{Says}
+use Rattle.scp_outbox.specs.scp_wire.specs.declared.message.Message.{Message}
 use Rattle.scp_outbox.specs.Sent.{statement_of, AreNewer}
 use Rattle.scp_apply.specs.scp_ledger.specs.declared.took.Outgoing.{Outgoing}
 use Rattle.scp_apply.specs.scp_ledger.specs.Runs.{Taking, things, onwards_of, nothing_taken}
@@ -33,7 +33,7 @@ module _ {D : Type 0} (says : Says D) where
     pub onwards_are : onwards_of takes ≡ ran.onwards
     pub served : ServesEach says (nothing_taken a.me a.set a.ledger.driver a.peers a.ledger.first) takes a.ledger
     pub said_are : said ≡ outs_of takes
-    pub answered : AnswersEach (nothing_applied a.ledger.first) ran.applied answers a.applier
+    pub answered : AnswersEach (nothing_applied a.ledger.first a.applier.base) ran.applied answers a.applier
 
 -- the message may be sent over the link, and is no statement
 abbrev pub MayAnswer : Grounds → ℕ → Message → Type 0

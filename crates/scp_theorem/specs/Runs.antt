@@ -1,10 +1,10 @@
 -- What the ledger theorem asks of a run can be met.
 use Rattle.std.specs.Prelude.{ℕ, ◌≡◌, List, [], Option}
-use Rattle.scp_types.specs.declared.names.NodeId.{NodeId}
-use Rattle.scp_quorum.specs.QuorumTree.{QuorumTree}
-use Rattle.scp_driver.specs.declared.driver.Level.{Level}
-use Rattle.scp_pending.specs.Pends.{Pends}
-use Rattle.scp_pending.specs.Rules.{PendingView}
+use Rattle.scp_outbox.specs.scp_types.specs.declared.names.NodeId.{NodeId}
+use Rattle.scp_outbox.specs.scp_quorum.specs.QuorumTree.{QuorumTree}
+use Rattle.scp_apply.specs.scp_driver.specs.declared.driver.Level.{Level}
+use Rattle.scp_apply.specs.scp_pending.specs.Pends.{Pends}
+use Rattle.scp_apply.specs.scp_pending.specs.Rules.{PendingView}
 use Rattle.scp_apply.specs.scp_ledger.specs.Journals.{Journals}
 use Rattle.scp_apply.specs.scp_ledger.specs.Seen.{LedgerView}
 use Rattle.scp_apply.specs.Applier.{ApplierView}

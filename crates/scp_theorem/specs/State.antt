@@ -1,10 +1,10 @@
 -- What operation lists make of the state, by their meaning (this project's profile).
 use Rattle.std.specs.Prelude.{ℕ, ◌<◌, ◌≡◌, List, [], ◌∷◌, All}
 use Rattle.std.specs.FinMap as finite
-use Rattle.scp_xdr.specs.Kind.{Values}
-use Rattle.scp_kv.specs.Map.{KvMap}
-use Rattle.scp_kv.specs.Op.{ops_kind, IsOps}
-use Rattle.scp_kv.specs.State.{after_ops, fold_of}
+use Rattle.scp_outbox.specs.scp_xdr.specs.Kind.{Values}
+use Rattle.scp_apply.specs.scp_kv.specs.Map.{KvMap}
+use Rattle.scp_apply.specs.scp_kv.specs.Op.{ops_kind, IsOps}
+use Rattle.scp_apply.specs.scp_kv.specs.State.{after_ops, fold_of}
 
 -- what a value makes of the state: what its operations do, in order, if its bytes are an operation list, and else nothing
 pub record IsAfter (old : KvMap) (value : List ℕ) (new : KvMap) : Type 0 where

@@ -2,8 +2,8 @@
 ghost use Rattle.scp_theorem.specs.Laws.{HandedOutMayGo};
 
 use crate::laws::what_ran_keeps_the_ledger;
-use scp_driver::Driver;
-use scp_pending::{
+use scp_apply::below::driver::Driver;
+use scp_apply::below::pending::{
     each_command_passes_once, nothing_is_of_a_stranger, what_is_replied_was_asked_for,
     who_it_is_stays,
 };

@@ -2,8 +2,8 @@
 ghost use Rattle.scp_theorem.specs.Books.{LedgerKeepsHeadline};
 ghost use Rattle.scp_theorem.specs.State.{FoldIsMade};
 
-use scp_driver::Driver;
-use scp_kv::ops_in_finds_the_list;
+use scp_apply::below::driver::Driver;
+use scp_apply::below::kv::ops_in_finds_the_list;
 
 /// Where the ledger theorem holds of a node's account, the headline holds of the books that the account makes.
 pub fn what_keeps_the_ledger_keeps_the_headline<D: Driver + Drop + Copy>()

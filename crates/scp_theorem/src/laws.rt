@@ -2,13 +2,13 @@
 ghost use Rattle.scp_theorem.specs.Kept.{RanKeepsLedger};
 ghost use Rattle.scp_theorem.specs.Runs.{NothingSentRan};
 
-use scp_driver::Driver;
-use scp_pending::{
+use scp_apply::below::driver::Driver;
+use scp_apply::below::pending::{
     each_command_keeps_its_place, each_command_passes_once, each_connection_ends_by_its_cause,
     each_fate_has_its_cause, no_lane_delays_another, no_message_is_lost_or_overtaken,
     nothing_is_of_a_stranger, what_is_live_is_so_by_its_place, what_is_parked_came,
 };
-use scp_wire::{
+use scp_outbox::below::wire::{
     a_beginning_keeps_the_shape, a_lane_follows_what_was_sent, each_number_names_its_message,
     parts_say_what_the_whole_says, what_is_read_is_what_was_sent, what_is_read_keeps_the_shape,
 };

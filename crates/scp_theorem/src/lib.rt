@@ -30,6 +30,7 @@
 //!   that slot's value, for a link over which it was asked for.
 #![tactic(auto)]
 
+pub mod below;
 mod grounds;
 mod headline;
 mod laws;

@@ -4,7 +4,7 @@ use Rattle.std.specs.Prelude.{slice_get, slice_set}
 use Rattle.std.proofs.lemmas.Bool.{cases_eq}
 use Rattle.std.proofs.lemmas.Option.{same_Some}
 use Rattle.scp_threaded_node.specs.Seats.{Each}
-use Rattle.scp_shared_outbox.proofs.ListsOfAll.{set_other}
+use Rattle.scp_gather.specs.scp_shared_outbox.proofs.ListsOfAll.{set_other}
 
 module _ {T : Type 0} where
   pub set_here : (xs : List T) (i : ℕ) (x y : T) → slice_get xs i ≡ Some x → slice_get (slice_set xs i y) i ≡ Some y

@@ -2,7 +2,7 @@
 use Rattle.std.proofs.Common.{◌≡◌, ◌∙◌, ℕ, zero, suc, Bool, refl, sym, ap, subst, List, [], ◌∷◌, Option, Some}
 use Rattle.std.specs.Prelude.{map, slice_get, slice_set}
 use Rattle.std.proofs.lemmas.Option.{same_Some}
-use Rattle.scp_shared_outbox.specs.Ends.{TakerView}
+use Rattle.scp_gather.specs.scp_shared_outbox.specs.Ends.{TakerView}
 use Rattle.scp_threaded_node.specs.declared.acting.Act.{Act}
 use Rattle.scp_threaded_node.specs.declared.node.Node.{Node}
 use Rattle.scp_threaded_node.specs.declared.node.Running.{Running}

@@ -1,19 +1,19 @@
 -- The links of a node, one more at a time.
 use Rattle.std.proofs.Common.{◌≡◌, ◌∙◌, ℕ, Bool, ap, sym, subst, List, [], ◌∷◌, ◌++◌, length, Option, Some, is_none}
 use Rattle.std.specs.Prelude.{slice_get, map}
-use Rattle.scp_types.specs.declared.names.NodeId.{NodeId}
-use Rattle.scp_wire.specs.declared.link.Inbound.{Inbound}
-use Rattle.scp_ends.specs.Ends.{Line}
+use Rattle.scp_gather.specs.scp_types.specs.declared.names.NodeId.{NodeId}
+use Rattle.scp_gather.specs.scp_wire.specs.declared.link.Inbound.{Inbound}
+use Rattle.scp_gather.specs.scp_ends.specs.Ends.{Line}
 use Rattle.scp_threaded_node.specs.declared.make.Lane.{Lane}
 use Rattle.scp_threaded_node.specs.declared.node.Running.{Running}
 use Rattle.scp_threaded_node.specs.declared.node.Source.{Source}
 use Rattle.scp_threaded_node.specs.Seats.{IsLane, AreLanes, AreUnused, AreRunning, AreDriven, IsDriven, tail_of}
 use Rattle.std.proofs.lemmas.List.{map-append}
-use Rattle.scp_shared_outbox.specs.Ends.{TakerView}
+use Rattle.scp_gather.specs.scp_shared_outbox.specs.Ends.{TakerView}
 use Rattle.scp_threaded_node.specs.Outlets.{AllKeep, taker_in, keeps_from, keeps_in}
 use Rattle.scp_threaded_node.specs.Sources.{AreSources, AreFresh, IsFresh, taker_from}
-use Rattle.scp_shared_outbox.proofs.Each.{each_front, each_last, each_push}
-use Rattle.scp_shared_outbox.proofs.ListsOfAll.{some_is}
+use Rattle.scp_gather.specs.scp_shared_outbox.proofs.Each.{each_front, each_last, each_push}
+use Rattle.scp_gather.specs.scp_shared_outbox.proofs.ListsOfAll.{some_is}
 
 pub lanes_more : (me : NodeId) (peers : List NodeId) (inbox : Line Inbound) (room : ℕ) (xs new : List Lane) (x : Lane) (peer : NodeId) → new ≡ xs ++ x ∷ [] → slice_get peers (length xs) ≡ Some peer → IsLane me peer inbox room (length xs) x.tail x.reader → AreLanes me peers inbox room xs → AreLanes me peers inbox room new
 lanes_more me peers inbox room xs new x peer is at lane all = each_push _ xs new x is all (λ p h. subst (λ q. IsLane me q inbox room (length xs) x.tail x.reader) (some_is peer p (sym at ∙ h)) lane)

@@ -4,39 +4,39 @@ use Rattle.std.specs.Prelude.{Option, Some, Result, Ok, IfOk, IfSome, is_some, s
 use Rattle.std.specs.List.{AllByRecursion}
 use Rattle.std.proofs.lemmas.List.{length-append}
 use Rattle.std.proofs.lemmas.Option.{slice_get_within}
-use Rattle.scp_types.specs.declared.fault.Fault.{Fault}
-use Rattle.scp_types.specs.declared.names.NodeId.{NodeId}
-use Rattle.scp_quorum.specs.QuorumTree.{QuorumTree}
-use Rattle.scp_wire.specs.declared.link.Inbound.{Inbound}
-use Rattle.scp_wire.specs.declared.link.LinkItem.{LinkItem}
-use Rattle.scp_ends.specs.Ends.{Line, Sender}
-use Rattle.scp_ends.specs.Links.{LinkEnd}
-use Rattle.scp_pending.specs.declared.ready.Ready.{Ready}
-use Rattle.scp_pending.specs.Rules.{PendingView}
-use Rattle.scp_ledger.specs.declared.took.Onward.{Onward}
-use Rattle.scp_workers.specs.declared.reading.ReadingStage.{ReadingStage}
-use Rattle.scp_workers.specs.declared.slot.SlotStage.{SlotStage}
-use Rattle.scp_workers.specs.Reading.{ReaderEnd}
-use Rattle.scp_workers.specs.Pending.{IsFor as PendsFor}
-use Rattle.scp_workers.specs.Slot.{IsFor as JournalsFor}
-use Rattle.scp_workers.specs.Working.{End, Work, Holds, IsLeftOf}
-use Rattle.scp_workers.specs.Carrying.{IsSameLink}
-use Rattle.scp_shared_outbox.specs.Ends.{TakerView}
+use Rattle.scp_gather.specs.scp_types.specs.declared.fault.Fault.{Fault}
+use Rattle.scp_gather.specs.scp_types.specs.declared.names.NodeId.{NodeId}
+use Rattle.scp_gather.specs.scp_quorum.specs.QuorumTree.{QuorumTree}
+use Rattle.scp_gather.specs.scp_wire.specs.declared.link.Inbound.{Inbound}
+use Rattle.scp_gather.specs.scp_wire.specs.declared.link.LinkItem.{LinkItem}
+use Rattle.scp_gather.specs.scp_ends.specs.Ends.{Line, Sender}
+use Rattle.scp_gather.specs.scp_ends.specs.Links.{LinkEnd}
+use Rattle.scp_gather.specs.scp_pending.specs.declared.ready.Ready.{Ready}
+use Rattle.scp_gather.specs.scp_pending.specs.Rules.{PendingView}
+use Rattle.scp_gather.specs.scp_ledger.specs.declared.took.Onward.{Onward}
+use Rattle.scp_gather.specs.scp_workers.specs.declared.reading.ReadingStage.{ReadingStage}
+use Rattle.scp_gather.specs.scp_workers.specs.declared.slot.SlotStage.{SlotStage}
+use Rattle.scp_gather.specs.scp_workers.specs.Reading.{ReaderEnd}
+use Rattle.scp_gather.specs.scp_workers.specs.Pending.{IsFor as PendsFor}
+use Rattle.scp_gather.specs.scp_workers.specs.Slot.{IsFor as JournalsFor}
+use Rattle.scp_gather.specs.scp_workers.specs.Working.{End, Work, Holds, IsLeftOf}
+use Rattle.scp_gather.specs.scp_workers.specs.Carrying.{IsSameLink}
+use Rattle.scp_gather.specs.scp_shared_outbox.specs.Ends.{TakerView}
 use Rattle.scp_gather.specs.Left.{Left}
-use Rattle.scp_pending.specs.Peers.{AreApart}
+use Rattle.scp_gather.specs.scp_pending.specs.Peers.{AreApart}
 use Rattle.scp_gather.specs.Node.{IsLinkAt, IsNode}
 use Rattle.scp_gather.specs.Report.{IsJoined, AreJoined, SendsTo, keeps_by}
 use Rattle.scp_threaded_node.specs.declared.ending.Stood.{Stood}
 use Rattle.scp_threaded_node.specs.declared.node.Node.{Node}
 use Rattle.scp_threaded_node.specs.declared.node.Running.{Running}
-use Rattle.scp_types.specs.declared.capacities.Capacities.{Capacities}
+use Rattle.scp_gather.specs.scp_types.specs.declared.capacities.Capacities.{Capacities}
 use Rattle.scp_threaded_node.specs.Seats.{IsLane, IsDriven, AreDriven, Runs, SendsAs, tail_of}
 use Rattle.scp_threaded_node.specs.Ended.{IsSentBy, AreSentBy, AreSized}
 use Rattle.scp_threaded_node.specs.declared.ending.TailLeft.{TailLeft}
 use Rattle.scp_threaded_node.specs.Outlets.{IsHandedBack, taker_in, keeps_in}
 use Rattle.scp_threaded_node.specs.inside.Left.{IsLaneOf, AreEndsOf, IsLeft}
-use Rattle.scp_shared_outbox.proofs.Each.{each_front, each_last, each_push}
-use Rattle.scp_shared_outbox.proofs.ListsOfAll.{push_cases, some_is, there_is}
+use Rattle.scp_gather.specs.scp_shared_outbox.proofs.Each.{each_front, each_last, each_push}
+use Rattle.scp_gather.specs.scp_shared_outbox.proofs.ListsOfAll.{push_cases, some_is, there_is}
 
 -- ---- a worker's sending end
 

@@ -2,9 +2,9 @@
 use Rattle.std.proofs.Common.{◌≡◌, ◌∙◌, ap, sym, List, [], ◌∷◌, ◌++◌, length, arith}
 use Rattle.std.specs.Prelude.{slice_get}
 use Rattle.std.proofs.lemmas.List.{length-append}
-use Rattle.scp_ends.specs.Ends.{Line, Sender, AreFresh, fresh}
-use Rattle.scp_shared_outbox.proofs.Each.{get_behind}
-use Rattle.scp_shared_outbox.proofs.ListsOfAll.{some_is, get_left}
+use Rattle.scp_gather.specs.scp_ends.specs.Ends.{Line, Sender, AreFresh, fresh}
+use Rattle.scp_gather.specs.scp_shared_outbox.proofs.Each.{get_behind}
+use Rattle.scp_gather.specs.scp_shared_outbox.proofs.ListsOfAll.{some_is, get_left}
 
 module _ {T : Type 0} where
   -- the ends of producers 0, 1, 2, .., without the last, and the last

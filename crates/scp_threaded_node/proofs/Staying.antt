@@ -1,14 +1,14 @@
 -- A node that runs goes on running, whatever is done on its links or sent to it.
 use Rattle.std.proofs.Common.{◌≡◌, ◌∙◌, ℕ, ap, sym, subst, List, length, Some}
 use Rattle.std.specs.Prelude.{slice_get}
-use Rattle.scp_types.specs.declared.names.NodeId.{NodeId}
-use Rattle.scp_quorum.specs.QuorumTree.{QuorumTree}
-use Rattle.scp_wire.specs.declared.link.Inbound.{Inbound}
-use Rattle.scp_wire.specs.declared.link.LinkItem.{LinkItem}
-use Rattle.scp_ends.specs.Ends.{Line}
-use Rattle.scp_ends.specs.Links.{LinkEnd, with_item}
-use Rattle.scp_workers.specs.Reading.{ReaderWork}
-use Rattle.scp_types.specs.declared.capacities.Capacities.{Capacities}
+use Rattle.scp_gather.specs.scp_types.specs.declared.names.NodeId.{NodeId}
+use Rattle.scp_gather.specs.scp_quorum.specs.QuorumTree.{QuorumTree}
+use Rattle.scp_gather.specs.scp_wire.specs.declared.link.Inbound.{Inbound}
+use Rattle.scp_gather.specs.scp_wire.specs.declared.link.LinkItem.{LinkItem}
+use Rattle.scp_gather.specs.scp_ends.specs.Ends.{Line}
+use Rattle.scp_gather.specs.scp_ends.specs.Links.{LinkEnd, with_item}
+use Rattle.scp_gather.specs.scp_workers.specs.Reading.{ReaderWork}
+use Rattle.scp_gather.specs.scp_types.specs.declared.capacities.Capacities.{Capacities}
 use Rattle.scp_threaded_node.specs.declared.acting.Act.{Act}
 use Rattle.scp_threaded_node.specs.declared.acting.Act.TheVariants.{Open, Close, Send}
 use Rattle.scp_threaded_node.specs.declared.node.Node.{Node}
@@ -17,7 +17,7 @@ use Rattle.scp_threaded_node.specs.declared.node.Tail.{Tail}
 use Rattle.scp_threaded_node.specs.declared.node.Tail.TheVariants.{Host, Courier}
 use Rattle.scp_threaded_node.specs.Acting.{act_on, acted, with_command, ActsAt, IsUnchanged}
 use Rattle.scp_threaded_node.specs.Seats.{IsLane, AreRunning, Runs, tail_of}
-use Rattle.scp_shared_outbox.proofs.ListsOfAll.{set_length}
+use Rattle.scp_gather.specs.scp_shared_outbox.proofs.ListsOfAll.{set_length}
 use Rattle.scp_threaded_node.proofs.Changing.{each_set}
 
 with_item_lane : (me peer : NodeId) (inbox : Line Inbound) (room place : ℕ) (k : LinkEnd) (x : LinkItem) (r : ReaderWork) → IsLane me peer inbox room place k r → IsLane me peer inbox room place (with_item k x) r

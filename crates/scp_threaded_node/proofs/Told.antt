@@ -6,19 +6,19 @@ use Rattle.std.specs.Option.{option_or}
 use Rattle.std.specs.Result.{result_err}
 use Rattle.std.proofs.lemmas.List.{length-append}
 use Rattle.std.proofs.lemmas.Option.{slice_get_within}
-use Rattle.scp_types.specs.declared.fault.Fault.{Fault}
-use Rattle.scp_types.specs.declared.fault.Fault.TheVariants.{NoMemory, Refused}
-use Rattle.scp_types.specs.declared.fault.Stage.{Stage}
-use Rattle.scp_types.specs.declared.fault.Stage.TheVariants.{Reader}
-use Rattle.scp_ends.specs.Links.{LinkEnd}
-use Rattle.scp_workers.specs.Reading.{ReaderEnd}
-use Rattle.scp_workers.specs.Working.{Holds}
-use Rattle.scp_workers.specs.Pending.{PendEnd}
+use Rattle.scp_gather.specs.scp_types.specs.declared.fault.Fault.{Fault}
+use Rattle.scp_gather.specs.scp_types.specs.declared.fault.Fault.TheVariants.{NoMemory, Refused}
+use Rattle.scp_gather.specs.scp_types.specs.declared.fault.Stage.{Stage}
+use Rattle.scp_gather.specs.scp_types.specs.declared.fault.Stage.TheVariants.{Reader}
+use Rattle.scp_gather.specs.scp_ends.specs.Links.{LinkEnd}
+use Rattle.scp_gather.specs.scp_workers.specs.Reading.{ReaderEnd}
+use Rattle.scp_gather.specs.scp_workers.specs.Working.{Holds}
+use Rattle.scp_gather.specs.scp_workers.specs.Pending.{PendEnd}
 use Rattle.scp_gather.specs.Left.{Left}
-use Rattle.scp_workers.specs.Slot.{SlotEnd}
-use Rattle.scp_workers.specs.Apply.{ApplyEnd}
-use Rattle.scp_wire.specs.declared.link.Inbound.{Inbound}
-use Rattle.scp_ends.specs.Ends.{Sender}
+use Rattle.scp_gather.specs.scp_workers.specs.Slot.{SlotEnd}
+use Rattle.scp_gather.specs.scp_workers.specs.Apply.{ApplyEnd}
+use Rattle.scp_gather.specs.scp_wire.specs.declared.link.Inbound.{Inbound}
+use Rattle.scp_gather.specs.scp_ends.specs.Ends.{Sender}
 use Rattle.scp_threaded_node.specs.declared.node.Node.{Node}
 use Rattle.scp_gather.specs.Report.{has_failed, first_so}
 use Rattle.scp_threaded_node.specs.declared.ending.Stood.{Stood}
@@ -27,7 +27,7 @@ use Rattle.scp_threaded_node.specs.declared.node.Running.{Running}
 use Rattle.scp_threaded_node.specs.declared.node.Tail.TheVariants.{Host}
 use Rattle.scp_threaded_node.specs.Faults.{driven, LaneEnd, NodeEnd, IsLaneEnd, IsNodeEnd, IsTold, is_unread, tail_fault, links_fault, local_fault, fault_by, fault_of}
 use Rattle.scp_threaded_node.specs.inside.Ending.{HasTailFault, HaveEnded, IsLeftOf}
-use Rattle.scp_shared_outbox.proofs.ListsOfAll.{push_cases}
+use Rattle.scp_gather.specs.scp_shared_outbox.proofs.ListsOfAll.{push_cases}
 
 -- ---- lists with one more
 

@@ -1,13 +1,13 @@
 -- What is done with a node while it runs: commands to it, and acts on its links.
 use Rattle.std.specs.Prelude.{◌≡◌, ℕ, [], ◌∷◌, ◌++◌, Option, None, Some, slice_get, slice_set, nat_eq, if◌then◌else◌}
-use Rattle.scp_types.specs.declared.limits.TheConstants.{LIFE_LIMIT}
-use Rattle.scp_types.specs.declared.fault.Fault.{Fault}
-use Rattle.scp_types.specs.declared.fault.Fault.TheVariants.{AlreadyOpen, LivesSpent, NotOpen, Refused}
-use Rattle.scp_types.specs.declared.fault.Stage.TheVariants.{Reader}
-use Rattle.scp_wire.specs.Shape.{Tail as Standing}
-use Rattle.scp_wire.specs.declared.link.Inbound.{Inbound}
-use Rattle.scp_wire.specs.declared.link.LinkItem.TheVariants as item
-use Rattle.scp_ends.specs.Links.{LinkEnd, stands, conn_now, conn_next, with_item}
+use Rattle.scp_gather.specs.scp_types.specs.declared.limits.TheConstants.{LIFE_LIMIT}
+use Rattle.scp_gather.specs.scp_types.specs.declared.fault.Fault.{Fault}
+use Rattle.scp_gather.specs.scp_types.specs.declared.fault.Fault.TheVariants.{AlreadyOpen, LivesSpent, NotOpen, Refused}
+use Rattle.scp_gather.specs.scp_types.specs.declared.fault.Stage.TheVariants.{Reader}
+use Rattle.scp_gather.specs.scp_wire.specs.Shape.{Tail as Standing}
+use Rattle.scp_gather.specs.scp_wire.specs.declared.link.Inbound.{Inbound}
+use Rattle.scp_gather.specs.scp_wire.specs.declared.link.LinkItem.TheVariants as item
+use Rattle.scp_gather.specs.scp_ends.specs.Links.{LinkEnd, stands, conn_now, conn_next, with_item}
 use Rattle.scp_threaded_node.specs.declared.acting.Act.{Act}
 use Rattle.scp_threaded_node.specs.declared.acting.Act.TheVariants.{Open, Close, Send}
 use Rattle.scp_threaded_node.specs.declared.node.Node.{Node}

@@ -1,18 +1,18 @@
 -- What is reported of a node that has ended.
 use Rattle.std.specs.Prelude.{◌≡◌, ℕ, Bool, true, false, List, length, map, slice_get, Some}
 use Rattle.std.specs.List.{AllByRecursion}
-use Rattle.scp_types.specs.declared.names.NodeId.{NodeId}
-use Rattle.scp_quorum.specs.QuorumTree.{QuorumTree}
-use Rattle.scp_wire.specs.declared.link.Inbound.{Inbound}
-use Rattle.scp_wire.specs.declared.link.LinkItem.{LinkItem}
-use Rattle.scp_driver.specs.Driver.{Says}
-use Rattle.scp_ends.specs.Links.{LinkEnd}
-use Rattle.scp_workers.specs.Carrying.{IsCarried}
+use Rattle.scp_gather.specs.scp_types.specs.declared.names.NodeId.{NodeId}
+use Rattle.scp_gather.specs.scp_quorum.specs.QuorumTree.{QuorumTree}
+use Rattle.scp_gather.specs.scp_wire.specs.declared.link.Inbound.{Inbound}
+use Rattle.scp_gather.specs.scp_wire.specs.declared.link.LinkItem.{LinkItem}
+use Rattle.scp_gather.specs.scp_driver.specs.Driver.{Says}
+use Rattle.scp_gather.specs.scp_ends.specs.Links.{LinkEnd}
+use Rattle.scp_gather.specs.scp_workers.specs.Carrying.{IsCarried}
 use Rattle.scp_gather.specs.declared.gathering.NodeReport.{NodeReport}
 use Rattle.scp_gather.specs.Headline.{IsReportHeadlined}
 use Rattle.scp_gather.specs.Left.{Left}
 use Rattle.scp_gather.specs.Report.{IsReportOf, AreFatesOf, AreCame, AreKept, keeps_by}
-use Rattle.scp_types.specs.declared.capacities.Capacities.{Capacities}
+use Rattle.scp_gather.specs.scp_types.specs.declared.capacities.Capacities.{Capacities}
 use Rattle.scp_threaded_node.specs.declared.ending.Stood.{Stood}
 use Rattle.scp_threaded_node.specs.Seats.{Each}
 

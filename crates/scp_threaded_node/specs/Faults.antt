@@ -2,20 +2,20 @@
 use Rattle.std.specs.Prelude.{◌≡◌, ℕ, Bool, true, false, not, ◌&&◌, List, [], ◌∷◌, length, Option, None, Some, IfSome, is_none, option_map, nat_eq, if◌then◌else◌, slice_get}
 use Rattle.std.specs.List.{list_any}
 use Rattle.std.specs.Option.{option_or}
-use Rattle.scp_types.specs.declared.fault.Fault.{Fault}
-use Rattle.scp_types.specs.declared.fault.Fault.TheVariants.{NoMemory, NotOpen, Refused}
-use Rattle.scp_types.specs.declared.fault.Stage.{Stage}
-use Rattle.scp_types.specs.declared.fault.Stage.TheVariants.{Reader, Pend}
-use Rattle.scp_wire.specs.declared.link.Inbound.{Inbound}
-use Rattle.scp_ends.specs.Ends.{Sender}
-use Rattle.scp_ends.specs.Links.{LinkEnd}
-use Rattle.scp_workers.specs.Working.{Holds}
-use Rattle.scp_workers.specs.Reading.{ReaderEnd}
-use Rattle.scp_workers.specs.Pending.{PendEnd}
-use Rattle.scp_workers.specs.Slot.{SlotEnd}
-use Rattle.scp_workers.specs.Apply.{ApplyEnd}
-use Rattle.scp_workers.specs.Carrying.{CourierEnd}
-use Rattle.scp_workers.specs.Carrying.{Holds as HoldsCourier}
+use Rattle.scp_gather.specs.scp_types.specs.declared.fault.Fault.{Fault}
+use Rattle.scp_gather.specs.scp_types.specs.declared.fault.Fault.TheVariants.{NoMemory, NotOpen, Refused}
+use Rattle.scp_gather.specs.scp_types.specs.declared.fault.Stage.{Stage}
+use Rattle.scp_gather.specs.scp_types.specs.declared.fault.Stage.TheVariants.{Reader, Pend}
+use Rattle.scp_gather.specs.scp_wire.specs.declared.link.Inbound.{Inbound}
+use Rattle.scp_gather.specs.scp_ends.specs.Ends.{Sender}
+use Rattle.scp_gather.specs.scp_ends.specs.Links.{LinkEnd}
+use Rattle.scp_gather.specs.scp_workers.specs.Working.{Holds}
+use Rattle.scp_gather.specs.scp_workers.specs.Reading.{ReaderEnd}
+use Rattle.scp_gather.specs.scp_workers.specs.Pending.{PendEnd}
+use Rattle.scp_gather.specs.scp_workers.specs.Slot.{SlotEnd}
+use Rattle.scp_gather.specs.scp_workers.specs.Apply.{ApplyEnd}
+use Rattle.scp_gather.specs.scp_workers.specs.Carrying.{CourierEnd}
+use Rattle.scp_gather.specs.scp_workers.specs.Carrying.{Holds as HoldsCourier}
 use Rattle.scp_gather.specs.Report.{has_failed, first_so}
 use Rattle.scp_threaded_node.specs.declared.ending.Stood.{Stood}
 use Rattle.scp_threaded_node.specs.declared.node.Node.{Node}

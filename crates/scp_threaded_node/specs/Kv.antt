@@ -1,18 +1,18 @@
 -- Nodes in threads whose values are operation lists (this project's profile).
 use Rattle.std.specs.Prelude.{ℕ, Bool, List, Option}
 use Rattle.std.specs.FinMap as finite
-use Rattle.scp_types.specs.declared.names.NodeId.{NodeId}
-use Rattle.scp_quorum.specs.QuorumTree.{QuorumTree}
-use Rattle.scp_driver.specs.declared.kv_driver.KvDriver.{KvDriver}
-use Rattle.scp_driver.specs.Kv.{kv_says}
-use Rattle.scp_kv.specs.Map.{KvMap}
-use Rattle.scp_kv.specs.State.{after_value}
-use Rattle.scp_shared_outbox.specs.Ends.{TakerView}
-use Rattle.scp_shared_outbox.specs.declared.outlets.Outlets.{Outlets}
-use Rattle.scp_wire.specs.declared.link.Inbound.{Inbound}
-use Rattle.scp_wire.specs.declared.link.LinkItem.{LinkItem}
+use Rattle.scp_gather.specs.scp_types.specs.declared.names.NodeId.{NodeId}
+use Rattle.scp_gather.specs.scp_quorum.specs.QuorumTree.{QuorumTree}
+use Rattle.scp_gather.specs.scp_driver.specs.declared.kv_driver.KvDriver.{KvDriver}
+use Rattle.scp_gather.specs.scp_driver.specs.Kv.{kv_says}
+use Rattle.scp_gather.specs.scp_kv.specs.Map.{KvMap}
+use Rattle.scp_gather.specs.scp_kv.specs.State.{after_value}
+use Rattle.scp_gather.specs.scp_shared_outbox.specs.Ends.{TakerView}
+use Rattle.scp_gather.specs.scp_shared_outbox.specs.declared.outlets.Outlets.{Outlets}
+use Rattle.scp_gather.specs.scp_wire.specs.declared.link.Inbound.{Inbound}
+use Rattle.scp_gather.specs.scp_wire.specs.declared.link.LinkItem.{LinkItem}
 use Rattle.scp_gather.specs.Kv.{NodeReport, Left}
-use Rattle.scp_types.specs.declared.capacities.Capacities.{Capacities}
+use Rattle.scp_gather.specs.scp_types.specs.declared.capacities.Capacities.{Capacities}
 use Rattle.scp_threaded_node.specs.declared.ending.Over as over
 use Rattle.scp_threaded_node.specs.declared.ending.Stood.{Stood}
 use Rattle.scp_threaded_node.specs.declared.node.Node as node

@@ -1,4 +1,13 @@
-pub use Rattle.scp_workers
+pub use Rattle.scp_gather.specs.scp_types
+pub use Rattle.scp_gather.specs.scp_driver
+pub use Rattle.scp_gather.specs.scp_wire
+pub use Rattle.scp_gather.specs.scp_outbox
+pub use Rattle.scp_gather.specs.scp_pending
+pub use Rattle.scp_gather.specs.scp_ledger
+pub use Rattle.scp_gather.specs.scp_theorem
+pub use Rattle.scp_gather.specs.scp_ends
+pub use Rattle.scp_gather.specs.scp_shared_outbox
+pub use Rattle.scp_gather.specs.scp_workers
 pub use Rattle.scp_gather
 pub mod Seats
 pub mod Sources

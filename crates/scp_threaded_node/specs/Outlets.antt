@@ -1,15 +1,15 @@
 -- The outbox ends that a node has while it runs, and hands back when it has ended.
 use Rattle.std.specs.Prelude.{◌≡◌, Bool, List, length, map, Option, None, Some, is_some, slice_get}
-use Rattle.scp_types.specs.declared.names.NodeId.{NodeId}
-use Rattle.scp_quorum.specs.QuorumTree.{QuorumTree}
-use Rattle.scp_shared_outbox.specs.Ends.{PutterView, TakerView}
-use Rattle.scp_shared_outbox.specs.Places.{Each}
-use Rattle.scp_shared_outbox.specs.declared.outlets.Outlets.{Outlets}
-use Rattle.scp_ends.specs.Links.{LinkEnd}
-use Rattle.scp_workers.specs.Working.{AreSameOutlets}
-use Rattle.scp_workers.specs.Reading.{ReaderWork}
-use Rattle.scp_workers.specs.Carrying.{HasCarried, IsSameTaker}
-use Rattle.scp_driver.specs.Driver.{Says}
+use Rattle.scp_gather.specs.scp_types.specs.declared.names.NodeId.{NodeId}
+use Rattle.scp_gather.specs.scp_quorum.specs.QuorumTree.{QuorumTree}
+use Rattle.scp_gather.specs.scp_shared_outbox.specs.Ends.{PutterView, TakerView}
+use Rattle.scp_gather.specs.scp_shared_outbox.specs.Places.{Each}
+use Rattle.scp_gather.specs.scp_shared_outbox.specs.declared.outlets.Outlets.{Outlets}
+use Rattle.scp_gather.specs.scp_ends.specs.Links.{LinkEnd}
+use Rattle.scp_gather.specs.scp_workers.specs.Working.{AreSameOutlets}
+use Rattle.scp_gather.specs.scp_workers.specs.Reading.{ReaderWork}
+use Rattle.scp_gather.specs.scp_workers.specs.Carrying.{HasCarried, IsSameTaker}
+use Rattle.scp_gather.specs.scp_driver.specs.Driver.{Says}
 use Rattle.scp_gather.specs.Left.{Left}
 use Rattle.scp_gather.specs.Report.{keeps_by}
 use Rattle.scp_gather.specs.Sending.{ArePutOut}

@@ -1,18 +1,18 @@
 -- How the channels and workers of one node belong together.
 use Rattle.std.specs.Prelude.{◌≡◌, ℕ, ◌+◌, Bool, true, false, List, [], length, Some, slice_get}
-use Rattle.scp_types.specs.declared.names.NodeId.{NodeId}
-use Rattle.scp_quorum.specs.QuorumTree.{QuorumTree}
-use Rattle.scp_wire.specs.declared.link.Inbound.{Inbound}
-use Rattle.scp_wire.specs.declared.link.LinkItem.{LinkItem}
-pub use Rattle.scp_shared_outbox.specs.Places.{Each}
-use Rattle.scp_ends.specs.Ends.{Line, Sender}
-use Rattle.scp_ends.specs.Links.{LinkEnd}
-use Rattle.scp_types.specs.declared.capacities.Capacities.{Capacities}
-use Rattle.scp_workers.specs.Working.{Work}
-use Rattle.scp_workers.specs.Reading.{ReaderWork}
-use Rattle.scp_workers.specs.Pending.{PendWork, IsFor as PendsFor}
-use Rattle.scp_workers.specs.Slot.{SlotWork, IsFor as JournalsFor}
-use Rattle.scp_workers.specs.Apply.{ApplyWork}
+use Rattle.scp_gather.specs.scp_types.specs.declared.names.NodeId.{NodeId}
+use Rattle.scp_gather.specs.scp_quorum.specs.QuorumTree.{QuorumTree}
+use Rattle.scp_gather.specs.scp_wire.specs.declared.link.Inbound.{Inbound}
+use Rattle.scp_gather.specs.scp_wire.specs.declared.link.LinkItem.{LinkItem}
+pub use Rattle.scp_gather.specs.scp_shared_outbox.specs.Places.{Each}
+use Rattle.scp_gather.specs.scp_ends.specs.Ends.{Line, Sender}
+use Rattle.scp_gather.specs.scp_ends.specs.Links.{LinkEnd}
+use Rattle.scp_gather.specs.scp_types.specs.declared.capacities.Capacities.{Capacities}
+use Rattle.scp_gather.specs.scp_workers.specs.Working.{Work}
+use Rattle.scp_gather.specs.scp_workers.specs.Reading.{ReaderWork}
+use Rattle.scp_gather.specs.scp_workers.specs.Pending.{PendWork, IsFor as PendsFor}
+use Rattle.scp_gather.specs.scp_workers.specs.Slot.{SlotWork, IsFor as JournalsFor}
+use Rattle.scp_gather.specs.scp_workers.specs.Apply.{ApplyWork}
 use Rattle.scp_threaded_node.specs.declared.make.Lane.{Lane}
 use Rattle.scp_threaded_node.specs.declared.node.Tail.{Tail}
 use Rattle.scp_threaded_node.specs.declared.node.Tail.TheVariants.{Host, Courier}

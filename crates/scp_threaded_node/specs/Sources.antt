@@ -1,6 +1,6 @@
 -- What a node is started with.
 use Rattle.std.specs.Prelude.{◌≡◌, ℕ, Bool, List, [], Option, Some, None, is_none}
-use Rattle.scp_shared_outbox.specs.Ends.{TakerView}
+use Rattle.scp_gather.specs.scp_shared_outbox.specs.Ends.{TakerView}
 use Rattle.scp_threaded_node.specs.declared.node.Source.{Source}
 use Rattle.scp_threaded_node.specs.Seats.{Each}
 

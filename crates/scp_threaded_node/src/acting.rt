@@ -1,10 +1,10 @@
 //! What is done with a node while it runs.
 ghost use Rattle.std.specs.Prelude.{◌≡◌, ◌<◌, List, None, Some, OnOk, OnErr, IsOkUnless, MatchResult, length, slice_get};
-ghost use Rattle.scp_types.specs.declared.names.NodeId.{NodeId};
-ghost use Rattle.scp_quorum.specs.QuorumTree.{QuorumTree};
-ghost use Rattle.scp_types.specs.declared.capacities.Capacities.{Capacities};
-ghost use Rattle.scp_types.specs.declared.fault.Stage.TheVariants.{Pend};
-ghost use Rattle.scp_wire.specs.declared.link.Inbound.TheVariants as inbound;
+ghost use Rattle.scp_gather.specs.scp_types.specs.declared.names.NodeId.{NodeId};
+ghost use Rattle.scp_gather.specs.scp_quorum.specs.QuorumTree.{QuorumTree};
+ghost use Rattle.scp_gather.specs.scp_types.specs.declared.capacities.Capacities.{Capacities};
+ghost use Rattle.scp_gather.specs.scp_types.specs.declared.fault.Stage.TheVariants.{Pend};
+ghost use Rattle.scp_gather.specs.scp_wire.specs.declared.link.Inbound.TheVariants as inbound;
 ghost use Rattle.scp_threaded_node.specs.Acting.{act_on, acted, cannot, with_command, ActsAt, CanAct, IsActFault, IsRefusedFor, IsUnchanged};
 ghost use Rattle.scp_threaded_node.specs.declared.node.Running.{Running};
 ghost use Rattle.scp_threaded_node.specs.inside.NotSent.{IsNotSentFor};
@@ -12,10 +12,10 @@ ghost use Rattle.scp_threaded_node.specs.Outlets.{given_to};
 ghost use Rattle.scp_threaded_node.specs.Seats.{is_carried, Runs};
 
 use crate::node::{Node, Running, Tail};
-use scp_driver::Application;
-use scp_ends::{LinkTx, NotSent};
-use scp_types::{Fault, Stage};
-use scp_wire::{Bytes, Command};
+use scp_gather::below::driver::Application;
+use scp_gather::below::ends::{LinkTx, NotSent};
+use scp_gather::below::types::{Fault, Stage};
+use scp_gather::below::wire::{Bytes, Command};
 use std::sync::Wait;
 
 /// What the host does on a link where no courier sends.

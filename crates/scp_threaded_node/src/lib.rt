@@ -12,6 +12,7 @@
 #![tactic(auto)]
 
 mod acting;
+pub mod below;
 mod ending;
 mod make;
 mod node;

@@ -1,25 +1,25 @@
 //! The channels and workers of a node, before any thread is started.
 ghost use Rattle.std.specs.Prelude.{◌≡◌, ◌≤◌, ◌+◌, [], Some, None, length, IfOk, IsOkUnless};
-ghost use Rattle.scp_types.specs.declared.limits.TheConstants.{PEER_LIMIT};
-ghost use Rattle.scp_quorum.specs.Sane.{IsSane};
-ghost use Rattle.scp_ends.specs.Ends.{AreFresh, fresh};
-ghost use Rattle.scp_ends.specs.Links.{new_link};
-ghost use Rattle.scp_workers.specs.Working.{AreUnused as HavePutNothing};
-ghost use Rattle.scp_workers.specs.Pending.{IsFor as PendsFor};
-ghost use Rattle.scp_workers.specs.Slot.{IsFor as JournalsFor};
+ghost use Rattle.scp_gather.specs.scp_types.specs.declared.limits.TheConstants.{PEER_LIMIT};
+ghost use Rattle.scp_gather.specs.scp_quorum.specs.Sane.{IsSane};
+ghost use Rattle.scp_gather.specs.scp_ends.specs.Ends.{AreFresh, fresh};
+ghost use Rattle.scp_gather.specs.scp_ends.specs.Links.{new_link};
+ghost use Rattle.scp_gather.specs.scp_workers.specs.Working.{AreUnused as HavePutNothing};
+ghost use Rattle.scp_gather.specs.scp_workers.specs.Pending.{IsFor as PendsFor};
+ghost use Rattle.scp_gather.specs.scp_workers.specs.Slot.{IsFor as JournalsFor};
 ghost use Rattle.scp_threaded_node.specs.Seats.{IsLane, AreLanes, AreUnused, AreStages, IsLocal, SendsAs};
-ghost use Rattle.scp_types.specs.Range.{IsInRange, AreInRange};
+ghost use Rattle.scp_gather.specs.scp_types.specs.Range.{IsInRange, AreInRange};
 ghost use Rattle.scp_threaded_node.specs.Outlets.{AllKeep, keeps_from};
 
-use scp_driver::{Application, KvDriver};
-use scp_ends::{
+use scp_gather::below::driver::{Application, KvDriver};
+use scp_gather::below::ends::{
     DecidedRx, DecidedTx, InboxRx, InboxTx, LinkRx, LinkTx, LocalTx, ReadyRx, ReadyTx, decided,
     inbox, link, ready,
 };
-use scp_quorum::{QuorumSet, SaneSet};
-use scp_shared_outbox::{Outlets, Putter};
-use scp_types::{Capacities, Fault, NodeId};
-use scp_workers::{
+use scp_gather::below::quorum::{QuorumSet, SaneSet};
+use scp_gather::below::shared_outbox::{Outlets, Putter};
+use scp_gather::below::types::{Capacities, Fault, NodeId};
+use scp_gather::below::workers::{
     ApplyWorker, PendWorker, ReaderWorker, SlotWorker, applier, pending, reader, slots,
 };
 use std::alloc::{AllocError, Global};

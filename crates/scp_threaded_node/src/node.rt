@@ -1,11 +1,11 @@
 //! A running node, each of whose workers has a thread of its own.
 ghost use Rattle.std.specs.Prelude.{◌≡◌, ◌<◌, ◌+◌, ◌∷◌, ◌++◌, ℕ, Bool, List, [], length, map, IfOk, IsOkUnless, is_none};
 ghost use Rattle.std.specs.Thread.{IsSync};
-ghost use Rattle.scp_types.specs.declared.names.NodeId.{NodeId};
-ghost use Rattle.scp_quorum.specs.QuorumTree.{QuorumTree};
-ghost use Rattle.scp_types.specs.declared.capacities.Capacities.{Capacities};
-ghost use Rattle.scp_wire.specs.declared.link.Inbound.{Inbound};
-ghost use Rattle.scp_ends.specs.Ends.{Line};
+ghost use Rattle.scp_gather.specs.scp_types.specs.declared.names.NodeId.{NodeId};
+ghost use Rattle.scp_gather.specs.scp_quorum.specs.QuorumTree.{QuorumTree};
+ghost use Rattle.scp_gather.specs.scp_types.specs.declared.capacities.Capacities.{Capacities};
+ghost use Rattle.scp_gather.specs.scp_wire.specs.declared.link.Inbound.{Inbound};
+ghost use Rattle.scp_gather.specs.scp_ends.specs.Ends.{Line};
 ghost use Rattle.scp_threaded_node.specs.Outlets.{given_to, keeps_from, keeps_in, taker_of, taker_in};
 ghost use Rattle.scp_threaded_node.specs.Seats.{AreLanes, AreRunning, AreUnused, IsDriven, AreDriven, AreStages, IsLocal, Runs, tail_of};
 ghost use Rattle.scp_threaded_node.specs.Sources.{AreSources, IsFresh, AreFresh, taker_from};
@@ -14,11 +14,11 @@ use crate::make::{Lane, Parts};
 use crate::starting::{
     ApplyThread, CourierThread, PendThread, ReaderThread, SlotThread, start_courier, start_worker,
 };
-use scp_driver::{Application, KvDriver};
-use scp_ends::{Gate, LinkTx, LocalTx};
-use scp_shared_outbox::Taker;
-use scp_types::{Fault, NodeId};
-use scp_workers::{ApplyWorker, Courier, SlotWorker};
+use scp_gather::below::driver::{Application, KvDriver};
+use scp_gather::below::ends::{Gate, LinkTx, LocalTx};
+use scp_gather::below::shared_outbox::Taker;
+use scp_gather::below::types::{Fault, NodeId};
+use scp_gather::below::workers::{ApplyWorker, Courier, SlotWorker};
 use std::alloc::Global;
 use std::sync::Wait;
 use std::thread::{Scope, Threads};

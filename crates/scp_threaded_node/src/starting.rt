@@ -1,17 +1,19 @@
 //! Starting the workers of a node, each in a thread of its own.
 ghost use Rattle.std.specs.Prelude.{◌≡◌, [], IfOk, IsOkUnless};
-ghost use Rattle.scp_workers.specs.Working.{Holds};
-ghost use Rattle.scp_workers.specs.Carrying as carrying;
+ghost use Rattle.scp_gather.specs.scp_workers.specs.Working.{Holds};
+ghost use Rattle.scp_gather.specs.scp_workers.specs.Carrying as carrying;
 
-use scp_apply::Applier;
-use scp_driver::KvDriver;
-use scp_ends::{Any, Gate, InWindow, Law};
-use scp_ledger::Onward;
-use scp_pending::{Pending, Ready};
-use scp_shared_outbox::ends_cross_threads;
-use scp_types::Fault;
-use scp_wire::{Inbound, LinkItem};
-use scp_workers::{Courier, CourierEnded, Ended, Nothing, ReadingStage, SlotStage, Stage, Worker};
+use scp_gather::below::apply::Applier;
+use scp_gather::below::driver::KvDriver;
+use scp_gather::below::ends::{Any, Gate, InWindow, Law};
+use scp_gather::below::ledger::Onward;
+use scp_gather::below::pending::{Pending, Ready};
+use scp_gather::below::shared_outbox::ends_cross_threads;
+use scp_gather::below::types::Fault;
+use scp_gather::below::wire::{Inbound, LinkItem};
+use scp_gather::below::workers::{
+    Courier, CourierEnded, Ended, Nothing, ReadingStage, SlotStage, Stage, Worker,
+};
 use std::snapshot::Snapshot;
 use std::sync::Wait;
 use std::thread::{Promise, PromisedHandle, Scope, Threads};
@@ -24,7 +26,7 @@ pub struct HoldsEnds<T: Drop, L: Law<T>, U: Drop, M: Law<U>, S: Stage<T, L, U, M
 
 impl<T: Drop, L: Law<T>, U: Drop, M: Law<U>, S: Stage<T, L, U, M>> Promise<Ended<T, L, U, M, S>>
     for HoldsEnds<T, L, U, M, S> {
-    ghost use Rattle.scp_workers.specs.Working.{Holds};
+    ghost use Rattle.scp_gather.specs.scp_workers.specs.Working.{Holds};
 
     ghost kept_by = { λ p e. Holds p.0.value e };
 }
@@ -34,7 +36,7 @@ impl<T: Drop, L: Law<T>, U: Drop, M: Law<U>, S: Stage<T, L, U, M>> Promise<Ended
 pub struct HoldsCourier(Snapshot<Courier>);
 
 impl Promise<CourierEnded> for HoldsCourier {
-    ghost use Rattle.scp_workers.specs.Carrying as carrying;
+    ghost use Rattle.scp_gather.specs.scp_workers.specs.Carrying as carrying;
 
     ghost kept_by = { λ p e. carrying.Holds p.0.value e };
 }

@@ -1,12 +1,12 @@
 -- What something done on a link does to nodes that run.
 use Rattle.std.proofs.Common.{◌≡◌, ◌≢◌, ◌∙◌, ℕ, ◌+◌, ◌-◌, ◌≤◌, Bool, true, false, ap, sym, refl, subst, List, [], ◌∷◌, ◌++◌, length, Some, append-nil, arith}
 use Rattle.std.specs.Prelude.{slice_get, slice_set, fold, if◌then◌else◌}
-use Rattle.scp_types.specs.declared.names.NodeId.{NodeId}
-use Rattle.scp_wire.specs.declared.link.LinkItem.{LinkItem}
-use Rattle.scp_wire.specs.declared.link.LinkItem.TheVariants as item
-use Rattle.scp_wire.specs.Connections.{conn_at}
-use Rattle.scp_wire.specs.Shape.{never_open, goes}
-use Rattle.scp_ends.specs.Links.{LinkEnd, stands}
+use Rattle.scp_threaded_node.specs.scp_types.specs.declared.names.NodeId.{NodeId}
+use Rattle.scp_threaded_node.specs.scp_wire.specs.declared.link.LinkItem.{LinkItem}
+use Rattle.scp_threaded_node.specs.scp_wire.specs.declared.link.LinkItem.TheVariants as item
+use Rattle.scp_threaded_node.specs.scp_wire.specs.Connections.{conn_at}
+use Rattle.scp_threaded_node.specs.scp_wire.specs.Shape.{never_open, goes}
+use Rattle.scp_threaded_node.specs.scp_ends.specs.Links.{LinkEnd, stands}
 use Rattle.scp_script.specs.declared.command.Command.{Command}
 use Rattle.scp_script.specs.declared.command.Command.TheVariants as script
 use Rattle.scp_script.specs.Nodes.{id_of, peers_of, set_at, capacities_in}
@@ -23,9 +23,9 @@ use Rattle.scp_threaded_script.specs.Lines.{link_of, peer_at, item_by, items_on,
 use Rattle.scp_threaded_script.specs.inside.Played.{AllRun, AreTold, AreItemsSent, HaveDone, AreTwoOf, ActsOn, AreUnchanged}
 use Rattle.scp_threaded_script.specs.Reported.{AllRunSoFar}
 use Rattle.scp_threaded_node.proofs.Staying.{acts_runs, unchanged_runs}
-use Rattle.scp_shared_outbox.proofs.ListsOfAll.{set_length}
+use Rattle.scp_threaded_node.specs.scp_shared_outbox.proofs.ListsOfAll.{set_length}
 use Rattle.scp_threaded_node.proofs.Changing.{each_set}
-use Rattle.scp_shared_outbox.proofs.Peers.{peer_of_place}
+use Rattle.scp_threaded_node.specs.scp_shared_outbox.proofs.Peers.{peer_of_place}
 use Rattle.scp_threaded_script.proofs.Links.{same_link, to_another, at_another, peer_there}
 use Rattle.scp_threaded_script.proofs.Sending.{items_more, life_after}
 use Rattle.scp_threaded_script.proofs.Telling.{none_more}

@@ -2,22 +2,22 @@
 use Rattle.std.proofs.Common.{◌≡◌, ◌∙◌, ℕ, ◌+◌, ◌-◌, ◌≤◌, ◌<◌, ap, sym, refl, subst, List, [], ◌∷◌, ◌++◌, length, Result, Ok, Err, Option, Some, arith}
 use Rattle.std.specs.Prelude.{OnOk, OnErr, slice_get, slice_set}
 use Rattle.std.proofs.lemmas.Option.{slice_get_within}
-use Rattle.scp_wire.specs.declared.link.Command.{Command as LocalCommand}
-use Rattle.scp_wire.specs.declared.link.Command.TheVariants as local
-use Rattle.scp_wire.specs.declared.link.Inbound.TheVariants as inbound
+use Rattle.scp_threaded_node.specs.scp_wire.specs.declared.link.Command.{Command as LocalCommand}
+use Rattle.scp_threaded_node.specs.scp_wire.specs.declared.link.Command.TheVariants as local
+use Rattle.scp_threaded_node.specs.scp_wire.specs.declared.link.Inbound.TheVariants as inbound
 use Rattle.scp_script.specs.declared.command.Command.{Command}
 use Rattle.scp_script.specs.declared.command.Command.TheVariants as script
 use Rattle.scp_script.specs.Script.{node_count}
 use Rattle.scp_threaded_node.specs.declared.acting.Act.{Act}
-use Rattle.scp_wire.specs.declared.link.Inbound.{Inbound}
+use Rattle.scp_threaded_node.specs.scp_wire.specs.declared.link.Inbound.{Inbound}
 use Rattle.scp_threaded_node.specs.Kv.{Node}
 use Rattle.scp_threaded_node.specs.Acting.{with_command, ActsAt, IsUnchanged}
 use Rattle.scp_threaded_script.specs.Lines.{link_of, local_by}
 use Rattle.scp_threaded_script.specs.inside.Played.{AllRun, HaveDone, HaveLanes, AreTwoOf, ActsOn, AreUnchanged, IsNoLink, IsCommandOf, TellsAt}
 use Rattle.scp_threaded_script.proofs.Acting.{IsLineOn, acts_run, acts_done, unchanged_run}
-use Rattle.scp_shared_outbox.proofs.ListsOfAll.{set_length}
+use Rattle.scp_threaded_node.specs.scp_shared_outbox.proofs.ListsOfAll.{set_length}
 use Rattle.scp_threaded_node.proofs.Changing.{set_same, each_set}
-use Rattle.scp_shared_outbox.proofs.Peers.{link_within}
+use Rattle.scp_threaded_node.specs.scp_shared_outbox.proofs.Peers.{link_within}
 use Rattle.scp_threaded_script.proofs.Peers.{peer_count}
 use Rattle.scp_threaded_script.proofs.Telling.{tells_run, tells_done, silent_done}
 

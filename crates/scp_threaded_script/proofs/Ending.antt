@@ -6,16 +6,16 @@ use Rattle.std.specs.Result.{result_err}
 use Rattle.std.specs.Global.{Vec}
 use Rattle.std.proofs.lemmas.List.{length-append}
 use Rattle.std.proofs.lemmas.Option.{slice_get_within}
-use Rattle.scp_types.specs.declared.limits.TheConstants.{NODE_LIMIT}
-use Rattle.scp_types.specs.declared.fault.Fault.{Fault}
-use Rattle.scp_types.specs.declared.fault.Fault.TheVariants.{NoMemory, Malformed, TooLong, Insane, Full, NotOpen, AlreadyOpen, LivesSpent, BadConfig, Failed, JournalFull, BadScript, Refused, Device}
-use Rattle.scp_types.specs.declared.fault.Stage.{Stage}
+use Rattle.scp_threaded_node.specs.scp_types.specs.declared.limits.TheConstants.{NODE_LIMIT}
+use Rattle.scp_threaded_node.specs.scp_types.specs.declared.fault.Fault.{Fault}
+use Rattle.scp_threaded_node.specs.scp_types.specs.declared.fault.Fault.TheVariants.{NoMemory, Malformed, TooLong, Insane, Full, NotOpen, AlreadyOpen, LivesSpent, BadConfig, Failed, JournalFull, BadScript, Refused, Device}
+use Rattle.scp_threaded_node.specs.scp_types.specs.declared.fault.Stage.{Stage}
 use Rattle.scp_script.specs.declared.command.Command.{Command}
 use Rattle.scp_script.specs.Script.{node_count}
 use Rattle.scp_threaded_node.specs.declared.ending.Stood.{Stood}
 use Rattle.scp_threaded_node.specs.Kv.{Node, NodeEnd}
 use Rattle.scp_threaded_node.specs.Faults.{IsNodeEnd, IsTold, fault_of}
-use Rattle.scp_shared_outbox.proofs.ListsOfAll.{push_cases}
+use Rattle.scp_threaded_node.specs.scp_shared_outbox.proofs.ListsOfAll.{push_cases}
 use Rattle.scp_threaded_script.specs.declared.running.NodeFault.{NodeFault}
 use Rattle.scp_threaded_script.specs.Reported.{AreStood, AllRunSoFar, AreNodeEnds, IsGivenUp, IsLineFault, IsOneOf, IsToldOf, refused_at, first_refused}
 use Rattle.scp_threaded_script.specs.inside.Reported.{AllStand}

@@ -1,10 +1,10 @@
 -- Why something wasn't done on a link, as a line's fault.
 use Rattle.std.proofs.Common.{◌≡◌, ◌≢◌, ◌∙◌, ℕ, Bool, true, false, sym, subst, Option, None, Some, nat_eq}
 use Rattle.std.specs.Prelude.{if◌then◌else◌}
-use Rattle.scp_types.specs.declared.fault.Fault.{Fault}
-use Rattle.scp_types.specs.declared.fault.Fault.TheVariants.{AlreadyOpen, LivesSpent, NotOpen, Refused}
-use Rattle.scp_types.specs.declared.fault.Stage.{Stage}
-use Rattle.scp_ends.specs.Links.{LinkEnd, stands}
+use Rattle.scp_threaded_node.specs.scp_types.specs.declared.fault.Fault.{Fault}
+use Rattle.scp_threaded_node.specs.scp_types.specs.declared.fault.Fault.TheVariants.{AlreadyOpen, LivesSpent, NotOpen, Refused}
+use Rattle.scp_threaded_node.specs.scp_types.specs.declared.fault.Stage.{Stage}
+use Rattle.scp_threaded_node.specs.scp_ends.specs.Links.{LinkEnd, stands}
 use Rattle.scp_threaded_node.specs.declared.acting.Act.{Act}
 use Rattle.scp_threaded_node.specs.declared.acting.Act.TheVariants.{Open, Close, Send}
 use Rattle.scp_threaded_node.specs.declared.node.Tail.{Tail}

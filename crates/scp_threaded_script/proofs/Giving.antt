@@ -2,7 +2,7 @@
 use Rattle.std.proofs.Common.{◌≡◌, ◌∙◌, ℕ, zero, suc, ◌-◌, ◌<◌, ap, sym, refl, subst, List, [], ◌∷◌, length, Result, Ok, Err, Some, arith}
 use Rattle.std.specs.Prelude.{OnOk, OnErr, map, slice_get, slice_set}
 use Rattle.std.proofs.lemmas.Option.{same_Some}
-use Rattle.scp_wire.specs.declared.link.Inbound.{Inbound}
+use Rattle.scp_threaded_node.specs.scp_wire.specs.declared.link.Inbound.{Inbound}
 use Rattle.scp_threaded_node.specs.declared.acting.Act.{Act}
 use Rattle.scp_threaded_node.specs.Kv.{Node}
 use Rattle.scp_threaded_node.specs.Acting.{with_command, ActsAt, IsUnchanged}

@@ -4,9 +4,9 @@ use Rattle.std.specs.Prelude.{is_some, map, slice_get}
 use Rattle.std.specs.Global.{Vec}
 use Rattle.std.specs.List.{AllByRecursion}
 use Rattle.std.proofs.lemmas.Option.{slice_get_within}
-use Rattle.scp_shared_outbox.specs.Ends.{TakerView}
-use Rattle.scp_shared_outbox.specs.declared.outlets.Outlets.{Outlets}
-use Rattle.scp_wire.specs.declared.link.LinkItem.{LinkItem}
+use Rattle.scp_threaded_node.specs.scp_shared_outbox.specs.Ends.{TakerView}
+use Rattle.scp_threaded_node.specs.scp_shared_outbox.specs.declared.outlets.Outlets.{Outlets}
+use Rattle.scp_threaded_node.specs.scp_wire.specs.declared.link.LinkItem.{LinkItem}
 use Rattle.scp_threaded_node.specs.scp_gather.specs.Kv.{NodeReport}
 use Rattle.scp_script.specs.declared.command.Command.{Command}
 use Rattle.scp_threaded_node.specs.declared.make.Lane.{Lane}
@@ -14,7 +14,7 @@ use Rattle.scp_threaded_node.specs.Outlets.{AllKeep, GivenEnds, keeps_from}
 use Rattle.scp_threaded_script.specs.Reported.{AreAllKept}
 use Rattle.scp_threaded_script.specs.inside.Outlets.{IsKeeping, AreKeeping}
 use Rattle.scp_threaded_script.specs.inside.Over.{AreOver}
-use Rattle.scp_shared_outbox.proofs.ListsOfAll.{there_is}
+use Rattle.scp_threaded_node.specs.scp_shared_outbox.proofs.ListsOfAll.{there_is}
 
 -- what is kept of links that aren't started yet, as the node is given it
 pub lanes_keep : (keeps : Bool) (lanes : List Lane) → AllKeep keeps lanes → AllByRecursion (λ b. b ≡ keeps) (map keeps_from lanes)

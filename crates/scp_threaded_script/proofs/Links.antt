@@ -4,12 +4,12 @@ use Rattle.std.specs.Prelude.{slice_get, nat_lt, if◌then◌else◌}
 use Rattle.std.proofs.lemmas.Bool.{cases_eq}
 use Rattle.std.proofs.lemmas.Bool.Decides.{nat_tests}
 use Rattle.std.proofs.lemmas.List.{length-append}
-use Rattle.scp_types.specs.declared.names.NodeId.{NodeId}
+use Rattle.scp_threaded_node.specs.scp_types.specs.declared.names.NodeId.{NodeId}
 use Rattle.scp_script.specs.Nodes.{id_of, peers_of}
 use Rattle.scp_script.specs.Script.{is_link}
 use Rattle.scp_script.proofs.Peers.{peers_more}
 use Rattle.scp_threaded_script.specs.Lines.{link_of, peer_at}
-use Rattle.scp_shared_outbox.proofs.Peers.{place_if, place_of_peer}
+use Rattle.scp_threaded_node.specs.scp_shared_outbox.proofs.Peers.{place_if, place_of_peer}
 use Rattle.scp_threaded_script.proofs.Peers.{peer_count}
 
 -- ---- which link it is

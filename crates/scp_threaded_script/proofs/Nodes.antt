@@ -4,9 +4,9 @@ use Rattle.std.specs.Prelude.{IfOk, slice_get}
 use Rattle.std.specs.Global.{Vec}
 use Rattle.std.proofs.lemmas.List.{length-append, map-append}
 use Rattle.std.proofs.lemmas.Option.{slice_get_read, slice_get_within}
-use Rattle.scp_types.specs.declared.fault.Fault.{Fault}
-use Rattle.scp_shared_outbox.specs.Ends.{TakerView}
-use Rattle.scp_shared_outbox.specs.declared.outlets.Outlets.{Outlets}
+use Rattle.scp_threaded_node.specs.scp_types.specs.declared.fault.Fault.{Fault}
+use Rattle.scp_threaded_node.specs.scp_shared_outbox.specs.Ends.{TakerView}
+use Rattle.scp_threaded_node.specs.scp_shared_outbox.specs.declared.outlets.Outlets.{Outlets}
 use Rattle.scp_threaded_node.specs.scp_gather.specs.Kv.{NodeReport, Left}
 use Rattle.scp_script.specs.declared.command.Command.{Command}
 use Rattle.scp_script.specs.Nodes.{id_of, peers_of, set_at, capacities_in}
@@ -15,7 +15,7 @@ use Rattle.scp_threaded_node.specs.Kv.{Node, Over, IsEnded, AreHandedBack}
 use Rattle.scp_threaded_node.specs.declared.ending.Stood.{Stood}
 use Rattle.scp_threaded_node.specs.Outlets.{GivenEnds, given_to}
 use Rattle.scp_threaded_node.specs.Seats.{Runs, AreDriven}
-use Rattle.scp_shared_outbox.proofs.ListsOfAll.{push_cases}
+use Rattle.scp_threaded_node.specs.scp_shared_outbox.proofs.ListsOfAll.{push_cases}
 use Rattle.scp_threaded_script.specs.Lines.{driven_to, items_to, commands_for}
 use Rattle.scp_threaded_script.specs.inside.Played.{HaveDoneSoFar}
 use Rattle.scp_threaded_script.specs.Reported.{AllRunSoFar}
@@ -23,7 +23,7 @@ use Rattle.scp_threaded_script.specs.Reported.{AreStood}
 use Rattle.scp_threaded_script.specs.inside.Outlets.{all_given}
 use Rattle.scp_threaded_script.specs.inside.Over.{IsOver, AreOver}
 use Rattle.scp_threaded_script.specs.inside.Reported.{AllStand}
-use Rattle.scp_shared_outbox.proofs.Each.{each_nil, each_push, each_front, each_last}
+use Rattle.scp_threaded_node.specs.scp_shared_outbox.proofs.Each.{each_nil, each_push, each_front, each_last}
 use Rattle.scp_threaded_script.proofs.Peers.{peer_count}
 
 abbrev RunsAt : List Command → ℕ → Node → Type 0

@@ -5,12 +5,12 @@ use Rattle.std.proofs.lemmas.Bool.{cases_eq}
 use Rattle.std.proofs.lemmas.Bool.Decides.{nat_tests}
 use Rattle.std.proofs.lemmas.List.{map-append, append-nil}
 use Rattle.std.proofs.lemmas.List.Elements.{filter-append}
-use Rattle.scp_types.specs.declared.names.NodeId.{NodeId}
+use Rattle.scp_threaded_node.specs.scp_types.specs.declared.names.NodeId.{NodeId}
 use Rattle.scp_script.specs.Nodes.{numbers, id_of, peers_of}
-use Rattle.scp_pending.specs.Peers.{AreApart}
+use Rattle.scp_threaded_node.specs.scp_pending.specs.Peers.{AreApart}
 use Rattle.scp_threaded_script.specs.Lines.{peer_at}
-use Rattle.scp_shared_outbox.proofs.ListsOfAll.{there_is}
-use Rattle.scp_shared_outbox.proofs.Peers.{ArePeers, peers_none, peers_more, peers_same, peers_all, place_apart}
+use Rattle.scp_threaded_node.specs.scp_shared_outbox.proofs.ListsOfAll.{there_is}
+use Rattle.scp_threaded_node.specs.scp_shared_outbox.proofs.Peers.{ArePeers, peers_none, peers_more, peers_same, peers_all, place_apart}
 
 -- one more node is one more peer, or the node itself
 one_more : (n node : ℕ) → peers_of (suc n) node ≡ peers_of n node ++ map id_of (cond (not (nat_eq (suc n) node)) (suc n ∷ []) [])

@@ -5,15 +5,15 @@ use Rattle.std.specs.Global.{Vec}
 use Rattle.std.proofs.lemmas.List.{length-map}
 use Rattle.std.proofs.lemmas.Option.{slice_get_within}
 use Rattle.atomic_table.specs.Seated.{TableId}
-use Rattle.scp_shared_outbox.specs.Ends.{PutterView, MarkerView, TakerView}
-use Rattle.scp_shared_outbox.specs.Places.{Each, link_of, peer_at}
-use Rattle.scp_shared_outbox.specs.declared.outlets.Outlets.{Outlets}
-use Rattle.scp_shared_outbox.specs.Table.{at_place, desk_of, desk_at, AreRows, ArePuttersOf, AreOutletsOf, IsTakerOf, IsAnyTakerOf}
+use Rattle.scp_threaded_node.specs.scp_shared_outbox.specs.Ends.{PutterView, MarkerView, TakerView}
+use Rattle.scp_threaded_node.specs.scp_shared_outbox.specs.Places.{Each, link_of, peer_at}
+use Rattle.scp_threaded_node.specs.scp_shared_outbox.specs.declared.outlets.Outlets.{Outlets}
+use Rattle.scp_threaded_node.specs.scp_shared_outbox.specs.Table.{at_place, desk_of, desk_at, AreRows, ArePuttersOf, AreOutletsOf, IsTakerOf, IsAnyTakerOf}
 use Rattle.scp_threaded_node.specs.scp_workers.specs.Working.{AreSameOutlets}
 use Rattle.scp_threaded_node.specs.declared.node.Source.{Source}
 use Rattle.scp_threaded_node.specs.Outlets.{GivenEnds}
 use Rattle.scp_threaded_node.specs.Sources.{AreFresh, IsFresh, taker_from}
-use Rattle.scp_shared_outbox.proofs.ListsOfAll.{push_cases, some_is, there_is}
+use Rattle.scp_threaded_node.specs.scp_shared_outbox.proofs.ListsOfAll.{push_cases, some_is, there_is}
 use Rattle.scp_threaded_script.specs.inside.Outlets.{desks_in, AreSameMarkers, AreTakenFrom, IsSeated}
 
 -- ---- lists

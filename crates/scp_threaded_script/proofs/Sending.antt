@@ -2,10 +2,10 @@
 use Rattle.std.proofs.Common.{◌≡◌, ◌∙◌, ℕ, ◌+◌, Bool, true, false, cond, ap, sym, refl, List, [], ◌∷◌, ◌++◌, append-nil, append_assoc, arith}
 use Rattle.std.specs.Prelude.{fold, if◌then◌else◌}
 use Rattle.std.proofs.lemmas.Grind.{fold-append}
-use Rattle.scp_wire.specs.declared.link.LinkItem.{LinkItem}
-use Rattle.scp_wire.specs.declared.link.LinkItem.TheVariants as item
-use Rattle.scp_wire.specs.Connections.{conn_at}
-use Rattle.scp_wire.specs.Shape.{Tail, never_open, goes}
+use Rattle.scp_threaded_node.specs.scp_wire.specs.declared.link.LinkItem.{LinkItem}
+use Rattle.scp_threaded_node.specs.scp_wire.specs.declared.link.LinkItem.TheVariants as item
+use Rattle.scp_threaded_node.specs.scp_wire.specs.Connections.{conn_at}
+use Rattle.scp_threaded_node.specs.scp_wire.specs.Shape.{Tail, never_open, goes}
 use Rattle.scp_script.specs.declared.command.Command.{Command}
 use Rattle.scp_script.specs.declared.command.Command.TheVariants.{Caps, Nodes, Set, Open, Close, Send, Propose, Round, Timer, Tick, Ask, Settle, Wait, Report}
 use Rattle.scp_script.specs.Nodes.{id_of}

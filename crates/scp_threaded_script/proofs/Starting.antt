@@ -3,10 +3,10 @@ use Rattle.std.proofs.Common.{◌≡◌, ◌∙◌, ℕ, ◌+◌, ◌≤◌, ◌
 use Rattle.std.specs.Prelude.{map, slice_get}
 use Rattle.std.specs.Global.{Vec}
 use Rattle.std.proofs.lemmas.List.{length-append, length-map}
-use Rattle.scp_shared_outbox.specs.Ends.{MarkerView, TakerView}
-use Rattle.scp_shared_outbox.specs.declared.outlets.Outlets.{Outlets}
-use Rattle.scp_shared_outbox.specs.Places.{Each}
-use Rattle.scp_shared_outbox.specs.Table.{AreMade, AreOutletsOf, HavePutNothing, IsTakerOf}
+use Rattle.scp_threaded_node.specs.scp_shared_outbox.specs.Ends.{MarkerView, TakerView}
+use Rattle.scp_threaded_node.specs.scp_shared_outbox.specs.declared.outlets.Outlets.{Outlets}
+use Rattle.scp_threaded_node.specs.scp_shared_outbox.specs.Places.{Each}
+use Rattle.scp_threaded_node.specs.scp_shared_outbox.specs.Table.{AreMade, AreOutletsOf, HavePutNothing, IsTakerOf}
 use Rattle.scp_script.specs.declared.command.Command.{Command}
 use Rattle.scp_script.specs.Nodes.{id_of, peers_of, set_at, capacities_in}
 use Rattle.scp_script.specs.Script.{node_count}
@@ -16,7 +16,7 @@ use Rattle.scp_threaded_node.specs.Seats.{Runs, AreDriven}
 use Rattle.scp_threaded_script.specs.Lines.{driven_to}
 use Rattle.scp_threaded_script.specs.inside.Outlets.{IsKeeping, AreKeeping, IsSeated, AreSeated, all_given}
 use Rattle.scp_threaded_script.specs.inside.Played.{HaveDoneSoFar}
-use Rattle.scp_shared_outbox.proofs.Each.{each_nil, each_push}
+use Rattle.scp_threaded_node.specs.scp_shared_outbox.proofs.Each.{each_nil, each_push}
 use Rattle.scp_threaded_script.proofs.Nodes.{done_none, done_more, given_more}
 
 -- of the nodes so far each runs, and has its own ends

@@ -3,10 +3,10 @@ use Rattle.std.proofs.Common.{◌≡◌, ◌∙◌, ℕ, ◌+◌, ◌-◌, ◌�
 use Rattle.std.specs.Prelude.{if◌then◌else◌}
 use Rattle.std.proofs.lemmas.Bool.Decides.{nat_tests}
 use Rattle.std.proofs.lemmas.Grind.{flat_map-append}
-use Rattle.scp_wire.specs.declared.link.Command.{Command as LocalCommand}
-use Rattle.scp_wire.specs.declared.link.Inbound.{Inbound}
-use Rattle.scp_wire.specs.declared.link.Inbound.TheVariants as inbound
-use Rattle.scp_wire.specs.declared.link.LinkItem.{LinkItem}
+use Rattle.scp_threaded_node.specs.scp_wire.specs.declared.link.Command.{Command as LocalCommand}
+use Rattle.scp_threaded_node.specs.scp_wire.specs.declared.link.Inbound.{Inbound}
+use Rattle.scp_threaded_node.specs.scp_wire.specs.declared.link.Inbound.TheVariants as inbound
+use Rattle.scp_threaded_node.specs.scp_wire.specs.declared.link.LinkItem.{LinkItem}
 use Rattle.scp_script.specs.declared.command.Command.{Command}
 use Rattle.scp_script.specs.declared.command.Command.TheVariants as script
 use Rattle.scp_script.specs.Nodes.{id_of, peers_of, set_at, capacities_in}
@@ -18,7 +18,7 @@ use Rattle.scp_threaded_script.specs.Lines.{peer_at, item_by, items_on, command_
 use Rattle.scp_threaded_script.specs.inside.Played.{AllRun, AreTold, AreItemsSent, HaveDone, IsNoLink, TellsAt, IsCommandOf}
 use Rattle.scp_threaded_script.specs.Reported.{AllRunSoFar}
 use Rattle.scp_threaded_node.proofs.Staying.{told_runs}
-use Rattle.scp_shared_outbox.proofs.ListsOfAll.{set_length}
+use Rattle.scp_threaded_node.specs.scp_shared_outbox.proofs.ListsOfAll.{set_length}
 use Rattle.scp_threaded_node.proofs.Changing.{each_set}
 use Rattle.scp_threaded_script.proofs.Sending.{items_more}
 

@@ -4,26 +4,26 @@ use Rattle.std.specs.Prelude.{map, slice_get}
 use Rattle.std.specs.Global.{Vec}
 use Rattle.std.proofs.lemmas.List.{length-map}
 use Rattle.std.proofs.lemmas.Option.{slice_get_within}
-use Rattle.scp_driver.specs.Kv.{kv_says}
-use Rattle.scp_wire.specs.declared.link.Inbound.{Inbound}
-use Rattle.scp_wire.specs.declared.link.LinkItem.{LinkItem}
-use Rattle.scp_wire.specs.LinkReading.{unread, readings}
-use Rattle.scp_wire.specs.Shape.{of_peer}
-use Rattle.scp_shared_outbox.specs.Ends.{PutterView, MarkerView, TakerView}
-use Rattle.scp_shared_outbox.specs.declared.outlets.Outlets.{Outlets}
-use Rattle.scp_shared_outbox.specs.Places.{Each, link_of, peer_at, AreTwoOf}
-use Rattle.scp_shared_outbox.specs.Table.{at_link, at_place, AreRows, AreAllBack, AllCameOut, AreOutletsOf, ArePuttersOf, PutAt, IsAnyTakerOf, IsTakerOf}
-use Rattle.scp_shared_outbox.proofs.Peers.{link_within, peer_of_place}
-use Rattle.scp_theorem.specs.Grounds.{Grounds, IsSentOut}
-use Rattle.scp_theorem.specs.Handed.{handed_by}
-use Rattle.scp_theorem.specs.Laws.{HandedOutMayGo}
-use Rattle.scp_ledger.specs.declared.took.Outgoing.{Outgoing}
-use Rattle.scp_ends.specs.Links.{LinkEnd}
-use Rattle.scp_ends.specs.Order.{values}
+use Rattle.scp_threaded_node.specs.scp_driver.specs.Kv.{kv_says}
+use Rattle.scp_threaded_node.specs.scp_wire.specs.declared.link.Inbound.{Inbound}
+use Rattle.scp_threaded_node.specs.scp_wire.specs.declared.link.LinkItem.{LinkItem}
+use Rattle.scp_threaded_node.specs.scp_wire.specs.LinkReading.{unread, readings}
+use Rattle.scp_threaded_node.specs.scp_wire.specs.Shape.{of_peer}
+use Rattle.scp_threaded_node.specs.scp_shared_outbox.specs.Ends.{PutterView, MarkerView, TakerView}
+use Rattle.scp_threaded_node.specs.scp_shared_outbox.specs.declared.outlets.Outlets.{Outlets}
+use Rattle.scp_threaded_node.specs.scp_shared_outbox.specs.Places.{Each, link_of, peer_at, AreTwoOf}
+use Rattle.scp_threaded_node.specs.scp_shared_outbox.specs.Table.{at_link, at_place, AreRows, AreAllBack, AllCameOut, AreOutletsOf, ArePuttersOf, PutAt, IsAnyTakerOf, IsTakerOf}
+use Rattle.scp_threaded_node.specs.scp_shared_outbox.proofs.Peers.{link_within, peer_of_place}
+use Rattle.scp_threaded_node.specs.scp_theorem.specs.Grounds.{Grounds, IsSentOut}
+use Rattle.scp_threaded_node.specs.scp_theorem.specs.Handed.{handed_by}
+use Rattle.scp_threaded_node.specs.scp_theorem.specs.Laws.{HandedOutMayGo}
+use Rattle.scp_threaded_node.specs.scp_ledger.specs.declared.took.Outgoing.{Outgoing}
+use Rattle.scp_threaded_node.specs.scp_ends.specs.Links.{LinkEnd}
+use Rattle.scp_threaded_node.specs.scp_ends.specs.Order.{values}
 use Rattle.scp_threaded_node.specs.scp_workers.specs.Working.{HavePut, AreSameOutlets}
-use Rattle.scp_workers.specs.Carrying.{HasCarried, IsSameTaker}
-use Rattle.scp_gather.specs.Sent.{WhatIsCarriedIsSentOut, bytes_among}
-use Rattle.scp_gather.specs.Theirs.{AreTheirs, WhatIsReadIsTheirs}
+use Rattle.scp_threaded_node.specs.scp_workers.specs.Carrying.{HasCarried, IsSameTaker}
+use Rattle.scp_threaded_node.specs.scp_gather.specs.Sent.{WhatIsCarriedIsSentOut, bytes_among}
+use Rattle.scp_threaded_node.specs.scp_gather.specs.Theirs.{AreTheirs, WhatIsReadIsTheirs}
 use Rattle.scp_threaded_node.specs.scp_gather.specs.Gathered.{account_gathered}
 use Rattle.scp_threaded_node.specs.scp_gather.specs.Kv.{NodeReport, Left}
 use Rattle.scp_threaded_node.specs.scp_gather.specs.Left.{items_of}
@@ -43,7 +43,7 @@ use Rattle.scp_threaded_script.specs.inside.Outlets.{AreSameMarkers, IsSeated, A
 use Rattle.scp_threaded_script.specs.inside.Over.{IsOver, AreOver}
 use Rattle.scp_threaded_script.specs.inside.Played.{HaveDone}
 use Rattle.scp_threaded_script.proofs.Peers.{peer_count, peer_is}
-use Rattle.scp_shared_outbox.proofs.ListsOfAll.{there_is}
+use Rattle.scp_threaded_node.specs.scp_shared_outbox.proofs.ListsOfAll.{there_is}
 use Rattle.scp_threaded_script.proofs.Seating.{same_rows, putters_back, taker_back}
 
 some_is : {T : Type 0} (x y : T) → Some x ≡ Some y → x ≡ y

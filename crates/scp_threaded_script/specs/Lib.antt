@@ -1,3 +1,4 @@
+pub use Rattle.scp_threaded_node.specs.scp_workers
 pub use Rattle.scp_threaded_node.specs.scp_gather
 pub use Rattle.scp_threaded_node
 pub mod Lines

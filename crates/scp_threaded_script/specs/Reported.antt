@@ -2,11 +2,11 @@
 use Rattle.std.specs.Prelude.{◌≡◌, ℕ, ◌+◌, ◌-◌, ◌≤◌, Bool, false, List, [], ◌∷◌, length, Option, None, Some, is_some, slice_get}
 use Rattle.std.specs.List.{AllByRecursion}
 use Rattle.std.specs.Option.{option_or}
-use Rattle.scp_types.specs.declared.limits.TheConstants.{NODE_LIMIT}
-use Rattle.scp_types.specs.declared.fault.Fault.{Fault}
-use Rattle.scp_types.specs.declared.fault.Fault.TheVariants.{NoMemory, Full, NotOpen, Refused}
-use Rattle.scp_types.specs.declared.fault.Stage.TheVariants.{Reader, Pend}
-pub use Rattle.scp_shared_outbox.specs.Places.{IsOneOf, AreTwoOf}
+use Rattle.scp_threaded_node.specs.scp_types.specs.declared.limits.TheConstants.{NODE_LIMIT}
+use Rattle.scp_threaded_node.specs.scp_types.specs.declared.fault.Fault.{Fault}
+use Rattle.scp_threaded_node.specs.scp_types.specs.declared.fault.Fault.TheVariants.{NoMemory, Full, NotOpen, Refused}
+use Rattle.scp_threaded_node.specs.scp_types.specs.declared.fault.Stage.TheVariants.{Reader, Pend}
+pub use Rattle.scp_threaded_node.specs.scp_shared_outbox.specs.Places.{IsOneOf, AreTwoOf}
 use Rattle.scp_threaded_node.specs.scp_gather.specs.Kv.{NodeReport, Left}
 use Rattle.scp_script.specs.declared.command.Command.{Command}
 use Rattle.scp_script.specs.Nodes.{id_of, peers_of, set_at, capacities_in}

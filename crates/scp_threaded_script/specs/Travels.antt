@@ -1,16 +1,16 @@
 -- What travels between the nodes of a script whose stages run in threads.
 use Rattle.std.specs.Prelude.{◌≡◌, ℕ, List, Some, slice_get}
-use Rattle.scp_wire.specs.Shape.{of_peer}
-use Rattle.scp_outbox.specs.declared.mark.Out.{Out}
-use Rattle.scp_shared_outbox.specs.Places.{link_of}
-use Rattle.scp_shared_outbox.specs.Table.{CameOut}
-use Rattle.scp_theorem.specs.Grounds.{Grounds, IsSentOut}
-use Rattle.scp_theorem.specs.Handed.{handed_by}
-use Rattle.scp_ends.specs.Links.{LinkEnd}
-use Rattle.scp_ends.specs.Order.{values}
-use Rattle.scp_workers.specs.Carrying.{HasCarried}
-use Rattle.scp_gather.specs.Sent.{bytes_among}
-use Rattle.scp_gather.specs.Theirs.{AreTheirs}
+use Rattle.scp_threaded_node.specs.scp_wire.specs.Shape.{of_peer}
+use Rattle.scp_threaded_node.specs.scp_outbox.specs.declared.mark.Out.{Out}
+use Rattle.scp_threaded_node.specs.scp_shared_outbox.specs.Places.{link_of}
+use Rattle.scp_threaded_node.specs.scp_shared_outbox.specs.Table.{CameOut}
+use Rattle.scp_threaded_node.specs.scp_theorem.specs.Grounds.{Grounds, IsSentOut}
+use Rattle.scp_threaded_node.specs.scp_theorem.specs.Handed.{handed_by}
+use Rattle.scp_threaded_node.specs.scp_ends.specs.Links.{LinkEnd}
+use Rattle.scp_threaded_node.specs.scp_ends.specs.Order.{values}
+use Rattle.scp_threaded_node.specs.scp_workers.specs.Carrying.{HasCarried}
+use Rattle.scp_threaded_node.specs.scp_gather.specs.Sent.{bytes_among}
+use Rattle.scp_threaded_node.specs.scp_gather.specs.Theirs.{AreTheirs}
 use Rattle.scp_threaded_node.specs.scp_gather.specs.Kv.{Left, ArePutOut}
 use Rattle.scp_threaded_node.specs.scp_gather.specs.Sending.{grounds_gathered}
 use Rattle.scp_script.specs.declared.command.Command.{Command}

@@ -1,6 +1,6 @@
 //! The gate that counts what the appliers receive.
-use scp_ends::{Gate, Moment, Place, Stage};
-use scp_types::{NODE_LIMIT, NodeId};
+use scp_threaded_node::below::ends::{Gate, Moment, Place, Stage};
+use scp_threaded_node::below::types::{NODE_LIMIT, NodeId};
 use std::sync::Wait;
 use std::sync::atomic::{AtomicU64, Ordering};
 use std::thread;

@@ -19,6 +19,7 @@
 //! When a `wait` line gives up: only that it is a `wait` line. How many statements are lost.
 #![tactic(auto)]
 
+pub mod below;
 mod gate;
 mod lines;
 mod outboxes;

@@ -1,12 +1,12 @@
 //! What the lines of a script do to running nodes.
 ghost use Rattle.std.specs.Prelude.{◌≡◌, ◌≤◌, ◌-◌, ◌∷◌, ◌++◌, [], ℕ, List, OnOk, OnErr, All, IfOk, IfErr, IsOkUnless, length, false};
-ghost use Rattle.scp_types.specs.declared.limits.TheConstants.{NODE_LIMIT};
-ghost use Rattle.scp_wire.specs.declared.link.Inbound.TheVariants as inbound;
+ghost use Rattle.scp_threaded_node.specs.scp_types.specs.declared.limits.TheConstants.{NODE_LIMIT};
+ghost use Rattle.scp_threaded_node.specs.scp_wire.specs.declared.link.Inbound.TheVariants as inbound;
 ghost use Rattle.scp_script.specs.declared.command.Command.{Command};
 ghost use Rattle.scp_script.specs.declared.command.Command.TheVariants as script;
 ghost use Rattle.scp_script.specs.Nodes.{NamesNodes};
 ghost use Rattle.scp_script.specs.Script.{AreAdmitted};
-ghost use Rattle.scp_shared_outbox.specs.Table.{AreRows};
+ghost use Rattle.scp_threaded_node.specs.scp_shared_outbox.specs.Table.{AreRows};
 ghost use Rattle.scp_threaded_script.specs.Lines.{local_by};
 ghost use Rattle.scp_threaded_script.specs.inside.Outlets.{AreSameMarkers, all_given};
 ghost use Rattle.scp_threaded_script.specs.inside.Played.{HaveDone, HaveLanes, AllRun, AreTwoOf, IsThere, IsNoLink, TellsAt, ActsOn, AreUnchanged};
@@ -21,13 +21,13 @@ ghost use Rattle.scp_threaded_node.specs.Acting.{IsActFault};
 use crate::gate::Counting;
 use crate::outboxes::leave_at;
 use crate::running::NodeFault;
-use scp_ends::Gate;
-use scp_outbox::Mark;
 use scp_script::Command;
-use scp_shared_outbox::{Marker, link_of};
+use scp_threaded_node::below::ends::Gate;
+use scp_threaded_node::below::outbox::Mark;
+use scp_threaded_node::below::shared_outbox::{Marker, link_of};
+use scp_threaded_node::below::types::{Fault, Slot};
+use scp_threaded_node::below::wire::{Bytes, Command as LocalCommand};
 use scp_threaded_node::{Act, Node, act_at, flush, is_carried_at, tell};
-use scp_types::{Fault, Slot};
-use scp_wire::{Bytes, Command as LocalCommand};
 use std::sync::Wait;
 
 /// The command that a line gives to a node, with the node's number; `None` for every other line. It copies the value of a proposal; the only

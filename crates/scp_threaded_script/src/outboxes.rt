@@ -1,19 +1,19 @@
 //! Which links the script drives, how the lines leave the links, and the marks that lines leave in outboxes.
 ghost use Rattle.std.specs.Prelude.{◌≡◌, ◌≤◌, ◌<◌, length, map, IfOk, IsOkUnless};
-ghost use Rattle.scp_types.specs.declared.limits.TheConstants.{NODE_LIMIT};
-ghost use Rattle.scp_shared_outbox.specs.Places.{AreTwoOf};
-ghost use Rattle.scp_shared_outbox.specs.Table.{AreRows, desk_of};
+ghost use Rattle.scp_threaded_node.specs.scp_types.specs.declared.limits.TheConstants.{NODE_LIMIT};
+ghost use Rattle.scp_threaded_node.specs.scp_shared_outbox.specs.Places.{AreTwoOf};
+ghost use Rattle.scp_threaded_node.specs.scp_shared_outbox.specs.Table.{AreRows, desk_of};
 ghost use Rattle.scp_script.specs.Script.{opens, closes, lives, is_open};
 ghost use Rattle.scp_threaded_script.specs.Lines.{sends, is_driven};
 ghost use Rattle.scp_threaded_script.specs.inside.Outlets.{AreSameMarkers};
 ghost use Rattle.scp_threaded_script.specs.Reported.{stood_on};
 
 use crate::gate::MOST_YIELDS;
-use scp_outbox::Mark;
 use scp_script::Command;
-use scp_shared_outbox::{Marker, Outlets, Putter, link_of};
 use scp_threaded_node::Stood;
-use scp_types::Fault;
+use scp_threaded_node::below::outbox::Mark;
+use scp_threaded_node::below::shared_outbox::{Marker, Outlets, Putter, link_of};
+use scp_threaded_node::below::types::Fault;
 use std::alloc::Global;
 use std::sync::Wait;
 use std::thread;

@@ -9,14 +9,14 @@ ghost use Rattle.scp_threaded_node.specs.scp_gather.specs.Kv.{NodeReport};
 ghost use Rattle.scp_threaded_node.specs.Seats.{Runs, AreDriven};
 ghost use Rattle.scp_threaded_node.specs.Sources.{AreSources, taker_from};
 ghost use Rattle.std.specs.Global.{Vec};
-ghost use Rattle.scp_types.specs.Range.{AreInRange};
-ghost use Rattle.scp_types.specs.declared.limits.TheConstants.{NODE_LIMIT, PEER_LIMIT};
+ghost use Rattle.scp_threaded_node.specs.scp_types.specs.Range.{AreInRange};
+ghost use Rattle.scp_threaded_node.specs.scp_types.specs.declared.limits.TheConstants.{NODE_LIMIT, PEER_LIMIT};
 ghost use Rattle.scp_threaded_script.specs.Lines.{is_driven, driven_to};
 ghost use Rattle.scp_threaded_script.specs.inside.Outlets.{AreSameMarkers, AreTakenFrom, IsKeeping, AreKeeping, IsSeated, AreSeated, all_given};
 ghost use Rattle.scp_threaded_script.specs.inside.Over.{AreOver};
-ghost use Rattle.scp_shared_outbox.specs.Ends.{MarkerView};
-ghost use Rattle.scp_shared_outbox.specs.Places.{Each};
-ghost use Rattle.scp_shared_outbox.specs.Table.{AreMade, AreRows, AreAllBack, AllCameOut, AreOutletsOf, IsTakerOf, HavePutNothing};
+ghost use Rattle.scp_threaded_node.specs.scp_shared_outbox.specs.Ends.{MarkerView};
+ghost use Rattle.scp_threaded_node.specs.scp_shared_outbox.specs.Places.{Each};
+ghost use Rattle.scp_threaded_node.specs.scp_shared_outbox.specs.Table.{AreMade, AreRows, AreAllBack, AllCameOut, AreOutletsOf, IsTakerOf, HavePutNothing};
 ghost use Rattle.scp_threaded_node.specs.Kv.{Over as NodeOver};
 ghost use Rattle.scp_threaded_node.specs.Outlets.{given_to};
 ghost use Rattle.scp_threaded_script.specs.inside.Ending.{HaveAllEnded, IsEndFault, IsNumbered, IsWhole};
@@ -30,14 +30,18 @@ ghost use Rattle.scp_threaded_script.specs.inside.Reported.{AllStand};
 use crate::gate::{Counting, Lent};
 use crate::lines::act_all;
 use crate::outboxes::{all_losses, is_driven, stood_of, stop_all};
-use scp_driver::KvDriver;
-use scp_ends::Gate;
-use scp_gather::{what_is_carried_is_sent_out, what_is_read_is_the_senders_own};
 use scp_script::{Command, capacities_of, count_of_nodes, id_from, peers_of_node, set_of_node};
-use scp_shared_outbox::{Made, Marker, Outlets, Taker, link_of, make_all, peer_at, take_all_back};
-use scp_theorem::what_is_handed_out_may_be_sent;
+use scp_threaded_node::below::driver::KvDriver;
+use scp_threaded_node::below::ends::Gate;
+use scp_threaded_node::below::gather::{
+    what_is_carried_is_sent_out, what_is_read_is_the_senders_own,
+};
+use scp_threaded_node::below::shared_outbox::{
+    Made, Marker, Outlets, Taker, link_of, make_all, peer_at, take_all_back,
+};
+use scp_threaded_node::below::theorem::what_is_handed_out_may_be_sent;
+use scp_threaded_node::below::types::Fault;
 use scp_threaded_node::{Node, NodeReport, Over, Source, Stood, end, make_parts, start};
-use scp_types::Fault;
 use std::alloc::{AllocError, Global};
 use std::sync::Wait;
 use std::thread;

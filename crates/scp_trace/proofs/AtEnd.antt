@@ -2,18 +2,18 @@
 use Rattle.std.proofs.Common.{◌≡◌, ◌<◌, ◌+◌, length, get_or, take, ◌++◌, ◌∷◌, [], ℕ, suc, Bool, true, false, not, List, refl, sym, ◌∙◌, ap, subst, append_assoc, append-nil, arith}
 use Rattle.std.specs.Prelude.{◌&&◌, ◌||◌, Result, Ok, Err, OnOk, codes}
 use Rattle.std.proofs.lemmas.List.{take_more}
-use Rattle.scp_types.specs.declared.fault.Fault.{Fault}
+use Rattle.scp_line.specs.scp_types.specs.declared.fault.Fault.{Fault}
 use Rattle.std.specs.List.{list_any}
 use Rattle.std.proofs.lemmas.List.Folds.{list_any-append}
-use Rattle.scp_core.specs.Kv.{TheoremGivesLedger}
-use Rattle.scp_turn.specs.Network.{NetworkView}
-use Rattle.scp_script.specs.declared.command.Command.{Command}
-use Rattle.scp_script.specs.declared.command.Command.TheVariants as script
+use Rattle.scp_line.specs.scp_core.specs.Kv.{TheoremGivesLedger}
+use Rattle.scp_line.specs.scp_turn.specs.Network.{NetworkView}
+use Rattle.scp_line.specs.scp_script.specs.declared.command.Command.{Command}
+use Rattle.scp_line.specs.scp_script.specs.declared.command.Command.TheVariants as script
 use Rattle.scp_line.specs.Nodes.{HasPlayed}
-use Rattle.scp_stand_slot.specs.declared.names.Names.{Names}
-use Rattle.scp_stand_slot.specs.Adding.{Adds}
+use Rattle.scp_stand_node.specs.scp_stand_slot.specs.declared.names.Names.{Names}
+use Rattle.scp_stand_node.specs.scp_stand_slot.specs.Adding.{Adds}
 use Rattle.scp_stand_node.specs.Slots.{AreTexts}
-use Rattle.scp_script.specs.Script.{node_count}
+use Rattle.scp_line.specs.scp_script.specs.Script.{node_count}
 use Rattle.scp_trace.specs.Playing.{moment_at}
 use Rattle.scp_trace.specs.Standing.{acts, asks_for, is_told, TellsLast, IsEnd}
 use Rattle.scp_trace.proofs.Seen.{have_played}
@@ -111,20 +111,20 @@ one_text_more P n old mid new a b =
     )
 
 -- the end
-is_end : TheoremGivesLedger → (names : Names) (count : ℕ) (commands : List Command) (network : NetworkView) (old mid new : List ℕ) → count ≡ node_count commands → (far : HasPlayed commands commands network) → mid ≡ old ++ codes "end\n"
-    → Adds mid new (AreTexts (λ index. TellsLast names commands network.nodes (index + 1)) count) → Adds old new (IsEnd names commands (moment_at far.heard network))
-is_end law names count commands network old mid new many far e a = (
+is_end : TheoremGivesLedger → (anew : Bool) (names : Names) (count : ℕ) (commands : List Command) (network : NetworkView) (old mid new : List ℕ) → count ≡ node_count commands → (far : HasPlayed commands commands network) → mid ≡ old ++ codes "end\n"
+    → Adds mid new (AreTexts (λ index. TellsLast anew names commands network.nodes (index + 1)) count) → Adds old new (IsEnd anew names commands (moment_at far.heard network))
+is_end law anew names count commands network old mid new many far e a = (
   codes "end\n" ++ a.0,
   a.1 ∙ ap (λ (l : List ℕ). l ++ a.0) e ∙ append_assoc old (codes "end\n") a.0,
   record {
     played = have_played law commands commands network far;
     stands = a.0;
-    of_nodes = subst (λ (n : ℕ). AreTexts (λ index. TellsLast names commands network.nodes (index + 1)) n a.0) many a.2;
+    of_nodes = subst (λ (n : ℕ). AreTexts (λ index. TellsLast anew names commands network.nodes (index + 1)) n a.0) many a.2;
     is = refl;
   },
 )
 
-pub end_told : TheoremGivesLedger → (names : Names) (count : ℕ) (commands : List Command) (network : NetworkView) (old mid new : List ℕ) (r : Result (Unit {0}) Fault) → count ≡ node_count commands → (far : HasPlayed commands commands network) → mid ≡ old ++ codes "end\n"
-    → OnOk r (Adds mid new (AreTexts (λ index. TellsLast names commands network.nodes (index + 1)) count)) → OnOk r (Adds old new (IsEnd names commands (moment_at far.heard network)))
-end_told law names count commands network old mid new (Ok done) many far e a = is_end law names count commands network old mid new many far e a
-end_told law names count commands network old mid new (Err fault) many far e a = tt
+pub end_told : TheoremGivesLedger → (anew : Bool) (names : Names) (count : ℕ) (commands : List Command) (network : NetworkView) (old mid new : List ℕ) (r : Result (Unit {0}) Fault) → count ≡ node_count commands → (far : HasPlayed commands commands network) → mid ≡ old ++ codes "end\n"
+    → OnOk r (Adds mid new (AreTexts (λ index. TellsLast anew names commands network.nodes (index + 1)) count)) → OnOk r (Adds old new (IsEnd anew names commands (moment_at far.heard network)))
+end_told law anew names count commands network old mid new (Ok done) many far e a = is_end law anew names count commands network old mid new many far e a
+end_told law anew names count commands network old mid new (Err fault) many far e a = tt

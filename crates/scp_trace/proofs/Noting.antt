@@ -1,10 +1,10 @@
 -- What is noted of the steps of nodes.
 use Rattle.std.proofs.Common.{List, [], ◌∷◌, ◌++◌, map, refl}
-use Rattle.scp_turn.specs.Kv.{Noting}
-use Rattle.scp_turn.specs.Heard.{Nodes, Heard, Noted}
-use Rattle.scp_facts.specs.declared.fact.Telling.{Telling}
-use Rattle.scp_facts.specs.Facts.{facts_in}
-use Rattle.scp_facts.specs.Telling.{of_node, Tells}
+use Rattle.scp_line.specs.scp_turn.specs.Kv.{Noting}
+use Rattle.scp_line.specs.scp_turn.specs.Heard.{Nodes, Heard, Noted}
+use Rattle.scp_trace_text.specs.scp_facts.specs.declared.fact.Telling.{Telling}
+use Rattle.scp_trace_text.specs.scp_facts.specs.Facts.{facts_in}
+use Rattle.scp_trace_text.specs.scp_facts.specs.Telling.{of_node, Tells}
 
 -- whoever noted the steps, they have their facts
 pub have_facts : {W : Type 0} (Note : Noting W) (w z : W) (start : List Telling) (old new : Nodes) (heard : List Heard) → Noted Note w z old heard new → (tellings : List Telling) × Noted Tells start tellings old heard new

@@ -1,16 +1,16 @@
 -- What is told of lines, one after the other.
-use Rattle.std.proofs.Common.{◌≡◌, ◌<◌, ◌≤◌, ◌+◌, ◌-◌, ◌++◌, ◌∷◌, [], ℕ, suc, Bool, List, None, inl, inr, length, get_or, map, take, refl, sym, ◌∙◌, ap, subst, append_assoc, append-nil, arith}
+use Rattle.std.proofs.Common.{false, ◌≡◌, ◌<◌, ◌≤◌, ◌+◌, ◌-◌, ◌++◌, ◌∷◌, [], ℕ, suc, Bool, List, None, inl, inr, length, get_or, map, take, refl, sym, ◌∙◌, ap, subst, append_assoc, append-nil, arith}
 use Rattle.std.specs.Prelude.{Option, Some, slice_get, option_to_list}
 use Rattle.std.proofs.lemmas.List.{length-append, take_at}
 use Rattle.std.proofs.lemmas.Option.{slice_get_cases}
-use Rattle.scp_core.specs.Kv.{NodeView, TheoremGivesLedger}
-use Rattle.scp_turn.specs.Heard.{Nodes as NodeList, Heard, Noted, past_at}
-use Rattle.scp_turn.specs.Network.{NetworkView}
-use Rattle.scp_script.specs.declared.command.Command.{Command}
-use Rattle.scp_script.specs.declared.command.Command.TheVariants as script
-use Rattle.scp_script.specs.Words.{words_of}
-use Rattle.scp_script.specs.Script.{Admits, AreAdmitted, command_in, commands_of, node_count}
-use Rattle.scp_script.proofs.Admitted.{admitted_rest, count_stays}
+use Rattle.scp_line.specs.scp_core.specs.Kv.{NodeView, TheoremGivesLedger}
+use Rattle.scp_line.specs.scp_turn.specs.Heard.{Nodes as NodeList, Heard, Noted, past_at}
+use Rattle.scp_line.specs.scp_turn.specs.Network.{NetworkView}
+use Rattle.scp_line.specs.scp_script.specs.declared.command.Command.{Command}
+use Rattle.scp_line.specs.scp_script.specs.declared.command.Command.TheVariants as script
+use Rattle.scp_line.specs.scp_script.specs.Words.{words_of}
+use Rattle.scp_line.specs.scp_script.specs.Script.{Admits, AreAdmitted, command_in, commands_of, node_count}
+use Rattle.scp_line.specs.scp_script.proofs.Admitted.{admitted_rest, count_stays}
 use Rattle.scp_line.specs.declared.player.Stopped.{Stopped as StoppedAt}
 use Rattle.scp_line.specs.Play.{AreNew, ArePlayed, HearsAs, driven_in}
 use Rattle.scp_line.specs.Player.{IsLine, AreLines, IsRun as IsRunOf, IsCutOff as IsCutOffOf}
@@ -20,9 +20,9 @@ use Rattle.scp_script_check.specs.declared.warning.Warning.{Warning}
 use Rattle.scp_script_check.specs.Warnings.{AreWarnings}
 use Rattle.scp_script_check.specs.Texts.{warnings_text}
 use Rattle.scp_script_check.specs.Lines.{IsSaid, MayWant, numbers_of}
-use Rattle.scp_stand_slot.specs.declared.names.Names.{Names}
-use Rattle.scp_facts.specs.declared.fact.Telling.{Telling}
-use Rattle.scp_facts.specs.Telling.{Tells}
+use Rattle.scp_stand_node.specs.scp_stand_slot.specs.declared.names.Names.{Names}
+use Rattle.scp_trace_text.specs.scp_facts.specs.declared.fact.Telling.{Telling}
+use Rattle.scp_trace_text.specs.scp_facts.specs.Telling.{Tells}
 use Rattle.scp_trace.specs.declared.depth.Depth.{Depth}
 use Rattle.scp_trace.specs.declared.depth.Depth.TheVariants.{Stands, Whole}
 use Rattle.scp_trace.specs.Standing.{Moment, beginning, HavePlayed, TellsNode, IsEnd}
@@ -220,7 +220,7 @@ none_played all first made = nothing_played all (record { nodes = first; driven 
 -- ---- all that is told
 
 -- all lines were played: then come the end, and the warnings
-pub all_whole : TheoremGivesLedger → (depth : Depth) (names : Names) (commands : List Command) (lines text ending : List ℕ) (network : NetworkView) (old new : Told) (warnings : List Warning) → AreAdmitted [] commands → old ≡ so_far depth names commands [] [] → (run : IsRunOf tracing commands lines network old new) → IsEnd names commands (at_moment run.played.heard network.nodes) ending
+pub all_whole : TheoremGivesLedger → (depth : Depth) (names : Names) (commands : List Command) (lines text ending : List ℕ) (network : NetworkView) (old new : Told) (warnings : List Warning) → AreAdmitted [] commands → old ≡ so_far depth names commands [] [] → (run : IsRunOf tracing commands lines network old new) → IsEnd false names commands (at_moment run.played.heard network.nodes) ending
     → AreWarnings commands lines warnings → text ≡ new.text ++ ending ++ warnings_text warnings → IsWhole depth names commands lines text
 all_whole law depth names commands lines text ending network old new warnings admitted begun run ended warned is =
     let told = told_of law depth names commands [] commands [] lines [] [] old new run.first network.nodes [] run.played.heard (sym (append-nil commands)) admitted run.made.count (none_played commands run.first run.made) begun run.noted in

@@ -1,10 +1,10 @@
 -- Bytes that were read are the message that they spell.
 use Rattle.std.proofs.Common.{◌≡◌, ◌∙◌, ◌++◌, ℕ, List, sym, ap}
 use Rattle.std.specs.Prelude.{Some, Ok, codes}
-use Rattle.scp_wire.specs.declared.message.Message.{Message}
-use Rattle.scp_wire.specs.Message.{message_value, message_of, message_reading}
-use Rattle.scp_wire.specs.Reading.{message_in, reading_of}
-use Rattle.scp_stand_slot.specs.declared.names.Names.{Names}
+use Rattle.scp_line.specs.scp_wire.specs.declared.message.Message.{Message}
+use Rattle.scp_line.specs.scp_wire.specs.Message.{message_value, message_of, message_reading}
+use Rattle.scp_line.specs.scp_wire.specs.Reading.{message_in, reading_of}
+use Rattle.scp_stand_node.specs.scp_stand_slot.specs.declared.names.Names.{Names}
 use Rattle.scp_trace_text.specs.Messages.{message_named}
 use Rattle.scp_trace.specs.Lines.{with_two, send_words}
 

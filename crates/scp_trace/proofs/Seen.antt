@@ -2,16 +2,16 @@
 use Rattle.std.proofs.Common.{◌≡◌, refl, ◌+◌, ◌-◌, ◌<◌, ℕ, List, Some, sym, subst, get_or, length, arith}
 use Rattle.std.specs.Prelude.{Result, Ok, Err, OnOk, slice_get}
 use Rattle.std.proofs.lemmas.Option.{slice_get_within, slice_get_read, get_or_from_slice_get}
-use Rattle.scp_types.specs.declared.fault.Fault.{Fault}
-use Rattle.scp_core.specs.Kv.{TheoremGivesLedger, NodeView, LedgerTheorem}
-use Rattle.scp_driver.specs.Kv.{kv_says}
-use Rattle.scp_ledger.specs.By.{RunsBy}
-use Rattle.scp_turn.specs.Heard.{Nodes, past_at}
-use Rattle.scp_turn.specs.Network.{NetworkView}
-use Rattle.scp_script.specs.declared.command.Command.{Command}
+use Rattle.scp_line.specs.scp_types.specs.declared.fault.Fault.{Fault}
+use Rattle.scp_line.specs.scp_core.specs.Kv.{TheoremGivesLedger, NodeView, LedgerTheorem}
+use Rattle.scp_line.specs.scp_driver.specs.Kv.{kv_says}
+use Rattle.scp_line.specs.scp_ledger.specs.By.{RunsBy}
+use Rattle.scp_line.specs.scp_turn.specs.Heard.{Nodes, past_at}
+use Rattle.scp_line.specs.scp_turn.specs.Network.{NetworkView}
+use Rattle.scp_line.specs.scp_script.specs.declared.command.Command.{Command}
 use Rattle.scp_line.specs.Nodes.{HasPlayed}
-use Rattle.scp_stand_slot.specs.declared.names.Names.{Names}
-use Rattle.scp_stand_slot.specs.Adding.{Adds}
+use Rattle.scp_stand_node.specs.scp_stand_slot.specs.declared.names.Names.{Names}
+use Rattle.scp_stand_node.specs.scp_stand_slot.specs.Adding.{Adds}
 use Rattle.scp_stand_node.specs.Stand.{IsSeen}
 use Rattle.scp_trace.specs.Playing.{IsPlaying, moment_at}
 use Rattle.scp_trace.specs.Standing.{HavePlayed, IsStandIn, TellsNode}

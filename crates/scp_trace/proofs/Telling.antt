@@ -1,14 +1,14 @@
 -- What a watch that lacked no memory told of lines is what is told of them.
 use Rattle.std.proofs.Common.{◌≡◌, ◌∙◌, ℕ, Bool, true, false, sym, ap, subst, refl, inl, inr}
 use Rattle.std.specs.Prelude.{◌||◌, string_bytes}
-use Rattle.scp_core.specs.declared.event.Event.{Event}
-use Rattle.scp_core.specs.declared.event.Reply.{Reply}
-use Rattle.scp_core.specs.Kv.{NodeView}
-use Rattle.scp_turn.specs.Heard.{Nodes as NodeList}
-use Rattle.scp_script.specs.declared.command.Command.{Command}
+use Rattle.scp_line.specs.scp_core.specs.declared.event.Event.{Event}
+use Rattle.scp_line.specs.scp_core.specs.declared.event.Reply.{Reply}
+use Rattle.scp_line.specs.scp_core.specs.Kv.{NodeView}
+use Rattle.scp_line.specs.scp_turn.specs.Heard.{Nodes as NodeList}
+use Rattle.scp_line.specs.scp_script.specs.declared.command.Command.{Command}
 use Rattle.scp_line.specs.Player.{Lining, lining}
 use Rattle.scp_line.specs.inside.Player.{NotesAs}
-use Rattle.scp_facts.specs.Watching.{WatchView, StepIsTold}
+use Rattle.scp_trace_text.specs.scp_facts.specs.Watching.{WatchView, StepIsTold}
 use Rattle.scp_trace.specs.declared.depth.Depth.{Depth}
 use Rattle.scp_trace.specs.declared.depth.Depth.TheVariants.{Stands, Whole}
 use Rattle.scp_trace.specs.declared.tracing.TraceWatch.{TraceWatch}

@@ -2,20 +2,20 @@
 use Rattle.std.proofs.Common.{◌≡◌, ◌∙◌, ◌+◌, ◌-◌, ◌<◌, ◌++◌, [], ℕ, Bool, true, false, List, Option, None, Some, inl, inr, length, take, refl, sym, ap, subst, append_assoc, append-nil}
 use Rattle.std.specs.Prelude.{◌||◌, Result, Ok, Err, OnOk, slice_get, string_bytes}
 use Rattle.std.proofs.lemmas.Option.{slice_get_within, get_or_from_slice_get}
-use Rattle.scp_types.specs.declared.fault.Fault.{Fault}
-use Rattle.scp_core.specs.Kv.{NodeView, LedgerTheorem}
-use Rattle.scp_driver.specs.Kv.{kv_says}
-use Rattle.scp_ledger.specs.By.{RunsBy}
-use Rattle.scp_turn.specs.Heard.{Nodes as NodeList, past_at}
-use Rattle.scp_script.specs.declared.command.Command.{Command}
-use Rattle.scp_script.specs.declared.command.Command.TheVariants as script
+use Rattle.scp_line.specs.scp_types.specs.declared.fault.Fault.{Fault}
+use Rattle.scp_line.specs.scp_core.specs.Kv.{NodeView, LedgerTheorem}
+use Rattle.scp_line.specs.scp_driver.specs.Kv.{kv_says}
+use Rattle.scp_line.specs.scp_ledger.specs.By.{RunsBy}
+use Rattle.scp_line.specs.scp_turn.specs.Heard.{Nodes as NodeList, past_at}
+use Rattle.scp_line.specs.scp_script.specs.declared.command.Command.{Command}
+use Rattle.scp_line.specs.scp_script.specs.declared.command.Command.TheVariants as script
 use Rattle.scp_line.specs.Player.{ArePlaying}
-use Rattle.scp_stand_slot.specs.declared.names.Names.{Names}
-use Rattle.scp_stand_slot.specs.Adding.{Adds}
+use Rattle.scp_stand_node.specs.scp_stand_slot.specs.declared.names.Names.{Names}
+use Rattle.scp_stand_node.specs.scp_stand_slot.specs.Adding.{Adds}
 use Rattle.scp_stand_node.specs.Stand.{IsSeen}
-use Rattle.scp_facts.specs.declared.fact.Telling.{Telling}
-use Rattle.scp_facts.specs.declared.watch.Awaited.TheVariants.{Nothing}
-use Rattle.scp_facts.specs.Watching.{WatchView}
+use Rattle.scp_trace_text.specs.scp_facts.specs.declared.fact.Telling.{Telling}
+use Rattle.scp_trace_text.specs.scp_facts.specs.declared.watch.Awaited.TheVariants.{Nothing}
+use Rattle.scp_trace_text.specs.scp_facts.specs.Watching.{WatchView}
 use Rattle.scp_trace_text.specs.Facts.{facts_text}
 use Rattle.scp_trace.specs.declared.depth.Depth.{Depth}
 use Rattle.scp_trace.specs.declared.depth.Depth.TheVariants.{Stands, Whole}

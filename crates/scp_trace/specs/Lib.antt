@@ -1,5 +1,14 @@
-pub use Rattle.scp_trace_text
+pub use Rattle.scp_line.specs.scp_types
+pub use Rattle.scp_line.specs.scp_ledger
+pub use Rattle.scp_line.specs.scp_core
+pub use Rattle.scp_line.specs.scp_turn
+pub use Rattle.scp_line.specs.scp_device
+pub use Rattle.scp_line.specs.scp_script
 pub use Rattle.scp_line
+pub use Rattle.scp_script_check
+pub use Rattle.scp_stand_node.specs.scp_stand_slot
+pub use Rattle.scp_trace_text.specs.scp_facts
+pub use Rattle.scp_trace_text
 pub mod Lines
 pub mod Standing
 pub mod Playing

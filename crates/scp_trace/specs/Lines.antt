@@ -1,16 +1,16 @@
 -- The lines of a script in a trace, as the script has them in text (this project's profile).
 use Rattle.std.specs.Prelude.{ℕ, List, ◌++◌, Result, Ok, Err, codes}
 use Rattle.std.specs.Fmt.{decimal}
-use Rattle.scp_types.specs.declared.fault.Fault.{Fault}
-use Rattle.scp_types.specs.declared.fault.Fault.TheVariants.{Malformed}
-use Rattle.scp_xdr.specs.Kind.{Values}
-use Rattle.scp_wire.specs.Message.{message_kind, message_of, message_reading}
-use Rattle.scp_types.specs.declared.capacities.Capacities.{Capacities}
-use Rattle.scp_script.specs.declared.command.Command.{Command}
-use Rattle.scp_script.specs.declared.command.Command.TheVariants.{Caps, Nodes, Set, Open, Close, Send, Propose, Round, Timer, Tick, Ask, Settle, Wait, Report}
-use Rattle.scp_text.specs.Sets.{set_text}
-use Rattle.scp_text.specs.Values.{value_text}
-use Rattle.scp_stand_slot.specs.declared.names.Names.{Names}
+use Rattle.scp_line.specs.scp_types.specs.declared.fault.Fault.{Fault}
+use Rattle.scp_line.specs.scp_types.specs.declared.fault.Fault.TheVariants.{Malformed}
+use Rattle.scp_line.specs.scp_xdr.specs.Kind.{Values}
+use Rattle.scp_line.specs.scp_wire.specs.Message.{message_kind, message_of, message_reading}
+use Rattle.scp_line.specs.scp_types.specs.declared.capacities.Capacities.{Capacities}
+use Rattle.scp_line.specs.scp_script.specs.declared.command.Command.{Command}
+use Rattle.scp_line.specs.scp_script.specs.declared.command.Command.TheVariants.{Caps, Nodes, Set, Open, Close, Send, Propose, Round, Timer, Tick, Ask, Settle, Wait, Report}
+use Rattle.scp_line.specs.scp_text.specs.Sets.{set_text}
+use Rattle.scp_line.specs.scp_text.specs.Values.{value_text}
+use Rattle.scp_stand_node.specs.scp_stand_slot.specs.declared.names.Names.{Names}
 use Rattle.scp_trace_text.specs.Commands.{with_one}
 use Rattle.scp_trace_text.specs.Messages.{message_named}
 

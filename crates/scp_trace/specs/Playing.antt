@@ -1,10 +1,10 @@
 -- What holds while a script is played.
 use Rattle.std.specs.Prelude.{ℕ, ◌≡◌, ◌≤◌, List}
-use Rattle.scp_types.specs.declared.limits.TheConstants.{NODE_LIMIT}
-use Rattle.scp_turn.specs.Heard.{Heard}
-use Rattle.scp_turn.specs.Network.{NetworkView}
-use Rattle.scp_script.specs.declared.command.Command.{Command}
-use Rattle.scp_script.specs.Script.{node_count}
+use Rattle.scp_line.specs.scp_types.specs.declared.limits.TheConstants.{NODE_LIMIT}
+use Rattle.scp_line.specs.scp_turn.specs.Heard.{Heard}
+use Rattle.scp_line.specs.scp_turn.specs.Network.{NetworkView}
+use Rattle.scp_line.specs.scp_script.specs.declared.command.Command.{Command}
+use Rattle.scp_line.specs.scp_script.specs.Script.{node_count}
 use Rattle.scp_line.specs.Nodes.{HasPlayed}
 use Rattle.scp_trace.specs.Standing.{Moment}
 

@@ -1,14 +1,14 @@
 -- Where the nodes of a script stand, at a moment of its run and at its end (this project's profile).
 use Rattle.std.specs.Prelude.{ℕ, ◌+◌, ◌-◌, ◌≡◌, Bool, true, false, not, ◌&&◌, ◌||◌, List, [], ◌∷◌, ◌++◌, Some, codes, nat_eq, slice_get}
 use Rattle.std.specs.List.{list_any}
-use Rattle.scp_core.specs.Kv.{NodeView}
-use Rattle.scp_turn.specs.Heard.{Nodes as NodeList, Heard}
-use Rattle.scp_script.specs.declared.command.Command.{Command}
-use Rattle.scp_script.specs.declared.command.Command.TheVariants.{Report}
-use Rattle.scp_script.specs.Script.{node_count}
+use Rattle.scp_line.specs.scp_core.specs.Kv.{NodeView}
+use Rattle.scp_line.specs.scp_turn.specs.Heard.{Nodes as NodeList, Heard}
+use Rattle.scp_line.specs.scp_script.specs.declared.command.Command.{Command}
+use Rattle.scp_line.specs.scp_script.specs.declared.command.Command.TheVariants.{Report}
+use Rattle.scp_line.specs.scp_script.specs.Script.{node_count}
 use Rattle.scp_line.specs.Play.{ArePlayed, Hears, HoldLedgers, driven_in}
 use Rattle.scp_script_check.specs.Nodes.{is_scripted_in, acts_on, settles_them}
-use Rattle.scp_stand_slot.specs.declared.names.Names.{Names}
+use Rattle.scp_stand_node.specs.scp_stand_slot.specs.declared.names.Names.{Names}
 use Rattle.scp_stand_node.specs.Slots.{AreTexts}
 use Rattle.scp_stand_node.specs.Stand.{IsStand}
 
@@ -61,14 +61,17 @@ abbrev pub TellsUnless : Bool → Names → List Command → NodeList → ℕ �
 TellsUnless true names all nodes number text = text ≡ []
 TellsUnless false names all nodes number text = TellsNode names all all nodes number text
 
--- What is shown of a node at the end: where it stands. Nothing is shown of a node that was already reported, or for which the script alone
--- speaks.
-abbrev pub TellsLast : Names → List Command → NodeList → ℕ → List ℕ → Type 0
-TellsLast names all nodes number text = TellsUnless (is_told number all || is_scripted_in number all) names all nodes number text
+-- Nothing is shown of the node at the end: the script alone speaks for it, or it was already reported and nodes aren't shown anew.
+abbrev pub is_left_out : Bool → ℕ → List Command → Bool
+is_left_out anew number all = (not anew && is_told number all) || is_scripted_in number all
+
+-- What is shown of a node at the end: where it stands, unless it is left out.
+abbrev pub TellsLast : Bool → Names → List Command → NodeList → ℕ → List ℕ → Type 0
+TellsLast anew names all nodes number text = TellsUnless (is_left_out anew number all) names all nodes number text
 
 -- The line `end`, and then for each node, in the order of their numbers, where it stands at this moment, as `TellsLast` says.
-pub record IsEnd (names : Names) (all : List Command) (now : Moment) (text : List ℕ) : Type 0 where
+pub record IsEnd (anew : Bool) (names : Names) (all : List Command) (now : Moment) (text : List ℕ) : Type 0 where
   pub played : HavePlayed all all now
   pub stands : List ℕ
-  pub of_nodes : AreTexts (λ index. TellsLast names all now.nodes (index + 1)) (node_count all) stands
+  pub of_nodes : AreTexts (λ index. TellsLast anew names all now.nodes (index + 1)) (node_count all) stands
   pub is : text ≡ codes "end\n" ++ stands

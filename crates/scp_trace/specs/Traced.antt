@@ -1,9 +1,9 @@
 -- What a trace shows of a script's run, line by line (this project's profile).
-use Rattle.std.specs.Prelude.{ℕ, ◌≡◌, ◌≢◌, List, [], ◌∷◌, ◌++◌, Option, Some, None, length, slice_get, string_bytes}
-use Rattle.scp_types.specs.declared.fault.Fault.TheVariants.{NoMemory as no_memory}
-use Rattle.scp_turn.specs.Heard.{Nodes as NodeList, Heard, Noted}
-use Rattle.scp_script.specs.declared.command.Command.{Command}
-use Rattle.scp_script.specs.declared.command.Command.TheVariants.{Report}
+use Rattle.std.specs.Prelude.{false, ℕ, ◌≡◌, ◌≢◌, List, [], ◌∷◌, ◌++◌, Option, Some, None, length, slice_get, string_bytes}
+use Rattle.scp_line.specs.scp_types.specs.declared.fault.Fault.TheVariants.{NoMemory as no_memory}
+use Rattle.scp_line.specs.scp_turn.specs.Heard.{Nodes as NodeList, Heard, Noted}
+use Rattle.scp_line.specs.scp_script.specs.declared.command.Command.{Command}
+use Rattle.scp_line.specs.scp_script.specs.declared.command.Command.TheVariants.{Report}
 use Rattle.scp_line.specs.declared.playing.PlayFault.{PlayFault}
 use Rattle.scp_line.specs.Play.{AreNew}
 use Rattle.scp_line.specs.Nodes.{IsStoppedAt}
@@ -11,10 +11,10 @@ use Rattle.scp_script_check.specs.Lines.{IsSaid}
 use Rattle.scp_script_check.specs.Warnings.{AreWarnings}
 use Rattle.scp_script_check.specs.Texts.{warnings_text}
 use Rattle.scp_script_check.specs.declared.warning.Warning.{Warning}
-use Rattle.scp_stand_slot.specs.declared.names.Names.{Names}
-use Rattle.scp_stand_slot.specs.Names.{AreNames}
-use Rattle.scp_facts.specs.declared.fact.Telling.{Telling}
-use Rattle.scp_facts.specs.Telling.{Tells}
+use Rattle.scp_stand_node.specs.scp_stand_slot.specs.declared.names.Names.{Names}
+use Rattle.scp_stand_node.specs.scp_stand_slot.specs.Names.{AreNames}
+use Rattle.scp_trace_text.specs.scp_facts.specs.declared.fact.Telling.{Telling}
+use Rattle.scp_trace_text.specs.scp_facts.specs.Telling.{Tells}
 use Rattle.scp_trace_text.specs.Facts.{facts_text}
 use Rattle.scp_trace.specs.declared.depth.Depth.{Depth}
 use Rattle.scp_trace.specs.declared.depth.Depth.TheVariants.{Stands, Whole}
@@ -81,7 +81,7 @@ pub record IsWhole (depth : Depth) (names : Names) (commands : List Command) (li
   pub pieces : List ℕ
   pub run : IsRun depth names commands lines commands pieces last
   pub ending : List ℕ
-  pub ended : IsEnd names commands last ending
+  pub ended : IsEnd false names commands last ending
   pub warnings : List Warning
   pub warned : AreWarnings commands lines warnings
   pub is : text ≡ pieces ++ ending ++ warnings_text warnings

@@ -15,6 +15,7 @@
 //! `write_end` and `write_warnings` are parts of it, for callers that show more of a run.
 #![tactic(auto)]
 
+pub mod below;
 mod depth;
 mod ending;
 mod lines;

@@ -1,21 +1,21 @@
 //! The lines of a script as text.
 ghost use Rattle.std.specs.Prelude.{◌≡◌, ◌++◌, OnOk, IsOkUnless, codes, string_bytes};
-ghost use Rattle.scp_text.specs.Sets.{set_text};
-ghost use Rattle.scp_text.specs.Values.{value_text};
-ghost use Rattle.scp_wire.specs.Message.{message_reading};
+ghost use Rattle.scp_line.specs.scp_text.specs.Sets.{set_text};
+ghost use Rattle.scp_line.specs.scp_text.specs.Values.{value_text};
+ghost use Rattle.scp_line.specs.scp_wire.specs.Message.{message_reading};
 ghost use Rattle.scp_trace_text.specs.Commands.{with_one};
 ghost use Rattle.scp_trace_text.specs.Messages.{message_named};
 ghost use Rattle.scp_trace.specs.Lines.{with_two, with_three, caps_words, send_words, line_words, line_text};
 ghost use Rattle.scp_trace.specs.Traced.{line_part};
 
 use crate::depth::Depth;
-use scp_quorum::QuorumSet;
-use scp_script::Command;
-use scp_stand_slot::Names;
-use scp_text::Term;
+use scp_line::below::quorum::QuorumSet;
+use scp_line::below::script::Command;
+use scp_line::below::text::Term;
+use scp_line::below::types::{Capacities, Fault, Value};
+use scp_line::below::wire::{Message, decode};
+use scp_stand_node::below::stand_slot::Names;
 use scp_trace_text::{write_message, write_one};
-use scp_types::{Capacities, Fault, Value};
-use scp_wire::{Message, decode};
 
 /// Adds a word with two numbers after it.
 fn write_two(out: &mut String, word: &str, a: u64, b: u64) -> Result<(), Fault>

@@ -1,14 +1,14 @@
 //! Playing a script, and showing what happens.
 ghost use Rattle.std.specs.Prelude.{ℕ, ◌≡◌, ◌≢◌, ◌++◌, [], All, List, None, OnOk, IfOk, IfErr, IsOkUnless, true, false, length, string_bytes};
-ghost use Rattle.scp_script.specs.Script.{AreAdmitted};
-ghost use Rattle.scp_script.specs.Nodes.{NamesNodes};
+ghost use Rattle.scp_line.specs.scp_script.specs.Script.{AreAdmitted};
+ghost use Rattle.scp_line.specs.scp_script.specs.Nodes.{NamesNodes};
 ghost use Rattle.scp_line.specs.Nodes.{HaveRoom, HasPlayed};
 ghost use Rattle.scp_script_check.specs.declared.warning.Warning.{Warning};
 ghost use Rattle.scp_script_check.specs.Lines.{IsNotRead};
 ghost use Rattle.scp_script_check.specs.Texts.{warnings_text};
 ghost use Rattle.scp_script_check.specs.Warnings.{AreWarnings};
-ghost use Rattle.scp_stand_slot.specs.declared.names.Names.{Names};
-ghost use Rattle.scp_stand_slot.specs.Names.{AreNames};
+ghost use Rattle.scp_stand_node.specs.scp_stand_slot.specs.declared.names.Names.{Names};
+ghost use Rattle.scp_stand_node.specs.scp_stand_slot.specs.Names.{AreNames};
 ghost use Rattle.scp_trace.specs.Playing.{IsPlaying, moment_at};
 ghost use Rattle.scp_trace.specs.Standing.{IsEnd};
 ghost use Rattle.scp_trace.specs.Traced.{IsTracedTo, IsTraced};
@@ -17,14 +17,14 @@ use crate::depth::Depth;
 use crate::ending::write_end;
 use crate::standing::Playing;
 use crate::tracing::TraceWatch;
-use scp_core::{KvDriver, each_node_holds_its_ledger};
-use scp_facts::a_step_is_told_as_it_happened;
+use scp_line::below::node::{KvDriver, each_node_holds_its_ledger};
+use scp_line::below::script::count_of_nodes;
+use scp_line::below::turn::Network;
+use scp_line::below::types::Fault;
 use scp_line::{PlayFault, a_script_has_room, new_network, play_lines};
-use scp_script::count_of_nodes;
 use scp_script_check::{ReadFault, Script, read, text_of_warnings, warnings};
-use scp_stand_slot::Names;
-use scp_turn::Network;
-use scp_types::Fault;
+use scp_stand_node::below::stand_slot::Names;
+use scp_trace_text::below::facts::a_step_is_told_as_it_happened;
 use std::alloc::Global;
 
 /// What was shown, and the fault that ended the run, if one did.
@@ -59,11 +59,11 @@ fn ended(
     requires same { playing.commands.now ≡ script.now.commands.items }
     requires names { All NamesNodes script.now.commands.items }
     requires admitted { AreAdmitted [] script.now.commands.items }
-    ensures told { (so_far : HasPlayed playing.entry.commands.now playing.entry.commands.now network.now) → IfOk result (λ traced. (ending : List ℕ) × (found : List Warning) × IsEnd playing.entry.names.now playing.entry.commands.now (moment_at so_far.heard network.now) ending × AreWarnings script.now.commands.items script.now.lines.items found × (string_bytes traced.text ≡ string_bytes lines ++ ending ++ warnings_text found) × (traced.fault ≡ None)) }
+    ensures told { (so_far : HasPlayed playing.entry.commands.now playing.entry.commands.now network.now) → IfOk result (λ traced. (ending : List ℕ) × (found : List Warning) × IsEnd false playing.entry.names.now playing.entry.commands.now (moment_at so_far.heard network.now) ending × AreWarnings script.now.commands.items script.now.lines.items found × (string_bytes traced.text ≡ string_bytes lines ++ ending ++ warnings_text found) × (traced.fault ≡ None)) }
     ensures only_memory { IsOkUnless result Fault.NoMemory }
 {
     let mut text = lines;
-    write_end(&mut text, playing, network)?;
+    write_end(&mut text, playing, network, false)?;
     write_warnings(playing.alloc, &mut text, script)?;
     Ok(Traced { text, fault: None })
 }

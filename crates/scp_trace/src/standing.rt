@@ -1,14 +1,14 @@
 //! Where a node of a script stands while the script is played.
 ghost use Rattle.std.specs.Prelude.{◌≤◌, OnOk, IsOkUnless, string_bytes};
-ghost use Rattle.scp_stand_slot.specs.Adding.{Adds};
+ghost use Rattle.scp_stand_node.specs.scp_stand_slot.specs.Adding.{Adds};
 ghost use Rattle.scp_trace.specs.Standing.{TellsNode};
 ghost use Rattle.scp_trace.specs.Playing.{IsPlaying};
 
-use scp_script::Command;
+use scp_line::below::script::Command;
+use scp_line::below::turn::Network;
+use scp_line::below::types::Fault;
+use scp_stand_node::below::stand_slot::Names;
 use scp_stand_node::{Lines, Seen, write_stand};
-use scp_stand_slot::Names;
-use scp_turn::Network;
-use scp_types::Fault;
 use std::alloc::Global;
 
 /// A script that is being played, up to one of its lines.

@@ -1,22 +1,22 @@
 //! The watch that shows the lines of a script as soon as they are done.
 ghost use Rattle.std.specs.Prelude.{◌≡◌, ◌<◌, ◌≤◌, ◌+◌, ◌-◌, ◌++◌, [], false, length, slice_get, string_bytes, take, OnOk, IsOkUnless};
-ghost use Rattle.scp_script.specs.Nodes.{NamesNodes};
+ghost use Rattle.scp_line.specs.scp_script.specs.Nodes.{NamesNodes};
 ghost use Rattle.scp_line.specs.Player.{ArePlaying};
-ghost use Rattle.scp_facts.specs.declared.watch.Awaited.TheVariants.{Nothing};
-ghost use Rattle.scp_stand_slot.specs.Adding.{Adds};
+ghost use Rattle.scp_trace_text.specs.scp_facts.specs.declared.watch.Awaited.TheVariants.{Nothing};
+ghost use Rattle.scp_stand_node.specs.scp_stand_slot.specs.Adding.{Adds};
 ghost use Rattle.scp_trace.specs.Traced.{facts_part};
 ghost use Rattle.scp_trace.specs.inside.Tracing.{held, lacks, StandsIf, StandsBy};
 
 use crate::depth::Depth;
 use crate::lines::write_begin;
-use scp_facts::FactWatch;
 use scp_line::LineWatch;
-use scp_script::Command;
+use scp_line::below::script::Command;
+use scp_line::below::turn::{Event, KvDriver, Node, Reply, Watch};
+use scp_line::below::types::Fault;
+use scp_stand_node::below::stand_slot::Names;
 use scp_stand_node::{Lines, Seen, write_stand};
-use scp_stand_slot::Names;
+use scp_trace_text::below::facts::FactWatch;
 use scp_trace_text::{Scene, write_facts};
-use scp_turn::{Event, KvDriver, Node, Reply, Watch};
-use scp_types::Fault;
 use std::alloc::Global;
 
 /// Shows each line of a script, at the depth that is asked for. What is noted of a line's steps is kept only until the line is done.

@@ -1,11 +1,11 @@
 -- What a watch wrote is what happened.
 use Rattle.std.proofs.Common.{◌≡◌, ◌∙◌, ℕ, true, false, Bool, List, [], ◌∷◌, ◌++◌, Option, None, Some, map, flat_map, refl, sym, ap, subst, append_assoc, append-nil, inl, inr}
-use Rattle.scp_turn.specs.scp_core.specs.declared.event.Event.{Event}
-use Rattle.scp_turn.specs.scp_core.specs.declared.event.Reply.{Reply}
-use Rattle.scp_turn.specs.scp_core.specs.History.{Exchange}
-use Rattle.scp_turn.specs.scp_core.specs.Kv.{NodeView}
-use Rattle.scp_device.specs.Device.{Gains}
-use Rattle.scp_turn.specs.Kv.{Watched}
+use Rattle.scp_facts.specs.scp_core.specs.declared.event.Event.{Event}
+use Rattle.scp_facts.specs.scp_core.specs.declared.event.Reply.{Reply}
+use Rattle.scp_facts.specs.scp_core.specs.History.{Exchange}
+use Rattle.scp_facts.specs.scp_core.specs.Kv.{NodeView}
+use Rattle.scp_stand_slot.specs.scp_device.specs.Device.{Gains}
+use Rattle.scp_facts.specs.scp_turn.specs.Kv.{Watched}
 use Rattle.scp_stand_slot.specs.declared.names.Names.{Names}
 use Rattle.scp_facts.specs.declared.fact.Fact.{Fact}
 use Rattle.scp_facts.specs.declared.fact.Telling.{Telling}

@@ -1,10 +1,10 @@
 -- What was told is written.
 use Rattle.std.proofs.Common.{◌≡◌, ◌≤◌, ◌<◌, ◌-◌, ◌^◌, ◌∙◌, ℕ, zero, suc, false, List, Option, flat_map, sym, ap, subst, arith, inr, lit<}
 use Rattle.std.specs.Prelude.{◌⊎◌, Result, Ok, Err, OnOk, OnErr, IfErr}
-use Rattle.scp_types.specs.declared.fault.Fault.TheVariants.{NoMemory}
-use Rattle.scp_types.specs.declared.fault.Fault.{Fault}
-use Rattle.scp_turn.specs.scp_core.specs.Kv.{NodeView}
-use Rattle.scp_device.specs.Device.{Gains, Fails}
+use Rattle.scp_words.specs.scp_types.specs.declared.fault.Fault.TheVariants.{NoMemory}
+use Rattle.scp_words.specs.scp_types.specs.declared.fault.Fault.{Fault}
+use Rattle.scp_facts.specs.scp_core.specs.Kv.{NodeView}
+use Rattle.scp_stand_slot.specs.scp_device.specs.Device.{Gains, Fails}
 use Rattle.scp_facts.specs.declared.fact.Telling.{Telling}
 use Rattle.scp_facts.specs.Watching.{WatchView}
 use Rattle.scp_trace_text.specs.Watching.{TraceView, WritesStep, telling_text, nothing}

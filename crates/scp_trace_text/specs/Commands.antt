@@ -1,11 +1,11 @@
 -- The commands of a node in a trace, as the text of a script has them, but with the names of nodes (this project's profile).
 use Rattle.std.specs.Prelude.{ℕ, List, ◌++◌, codes}
 use Rattle.std.specs.Fmt.{decimal}
-use Rattle.scp_wire.specs.declared.link.Command.{Command}
-use Rattle.scp_wire.specs.declared.link.Command.TheVariants as command
-use Rattle.scp_turn.specs.scp_core.specs.declared.config.Config.{Config}
-use Rattle.scp_turn.specs.scp_core.specs.History.{peer_at}
-use Rattle.scp_text.specs.Values.{value_text}
+use Rattle.scp_words.specs.scp_wire.specs.declared.link.Command.{Command}
+use Rattle.scp_words.specs.scp_wire.specs.declared.link.Command.TheVariants as command
+use Rattle.scp_facts.specs.scp_core.specs.declared.config.Config.{Config}
+use Rattle.scp_facts.specs.scp_core.specs.History.{peer_at}
+use Rattle.scp_stand_slot.specs.scp_text.specs.Values.{value_text}
 use Rattle.scp_stand_slot.specs.declared.names.Names.{Names}
 use Rattle.scp_stand_slot.specs.Names.{node_name}
 

@@ -2,30 +2,30 @@
 use Rattle.std.specs.Prelude.{ℕ, ◌-◌, Bool, true, false, ◌&&◌, List, [], ◌∷◌, ◌++◌, Option, Some, None, map, flat_map, codes, nat_eq, slice_get, if◌then◌else◌}
 use Rattle.std.specs.Fmt.{decimal}
 use Rattle.std.specs.Cmp.Lexicographic.{pointwise}
-use Rattle.scp_types.specs.declared.names.ConnId.{ConnId}
-use Rattle.scp_types.specs.declared.names.Hash.{Hash}
-use Rattle.scp_types.specs.declared.names.NodeId.{NodeId}
-use Rattle.scp_types.specs.declared.names.Seq.{Seq}
-use Rattle.scp_types.specs.declared.names.Slot.{Slot}
-use Rattle.scp_envelope.specs.declared.statement.Envelope.{Envelope}
-use Rattle.scp_wire.specs.declared.link.Cause.{Cause}
-use Rattle.scp_wire.specs.declared.link.Command.{Command}
-use Rattle.scp_wire.specs.declared.message.Message.{Message}
-use Rattle.scp_wire.specs.declared.side.SideMessage.{SideMessage}
-use Rattle.scp_wire.specs.Reading.{reading_of}
-use Rattle.scp_pending.specs.declared.becoming.Why.{Why}
-use Rattle.scp_pending.specs.declared.ready.DropCause.{DropCause}
-use Rattle.scp_ledger.specs.declared.took.CommandFate.{CommandFate}
-use Rattle.scp_ledger.specs.declared.journal.Decision.{Decision}
-use Rattle.scp_ledger.specs.declared.journal.Fate.{Fate}
-use Rattle.scp_ledger.specs.declared.journal.Fate.TheVariants as fate
-use Rattle.scp_ledger.specs.declared.journal.Origin.{Origin}
-use Rattle.scp_ledger.specs.declared.journal.Origin.TheVariants.{Machine, Named}
-use Rattle.scp_ledger.specs.declared.journal.Verdict.{Verdict}
-use Rattle.scp_turn.specs.scp_core.specs.declared.config.Config.{Config}
-use Rattle.scp_turn.specs.scp_core.specs.History.{peer_at}
-use Rattle.scp_turn.specs.scp_core.specs.Kv.{NodeView}
-use Rattle.scp_text.specs.Values.{value_text}
+use Rattle.scp_words.specs.scp_types.specs.declared.names.ConnId.{ConnId}
+use Rattle.scp_words.specs.scp_types.specs.declared.names.Hash.{Hash}
+use Rattle.scp_words.specs.scp_types.specs.declared.names.NodeId.{NodeId}
+use Rattle.scp_words.specs.scp_types.specs.declared.names.Seq.{Seq}
+use Rattle.scp_words.specs.scp_types.specs.declared.names.Slot.{Slot}
+use Rattle.scp_words.specs.scp_envelope.specs.declared.statement.Envelope.{Envelope}
+use Rattle.scp_words.specs.scp_wire.specs.declared.link.Cause.{Cause}
+use Rattle.scp_words.specs.scp_wire.specs.declared.link.Command.{Command}
+use Rattle.scp_words.specs.scp_wire.specs.declared.message.Message.{Message}
+use Rattle.scp_words.specs.scp_wire.specs.declared.side.SideMessage.{SideMessage}
+use Rattle.scp_words.specs.scp_wire.specs.Reading.{reading_of}
+use Rattle.scp_words.specs.scp_pending.specs.declared.becoming.Why.{Why}
+use Rattle.scp_words.specs.scp_pending.specs.declared.ready.DropCause.{DropCause}
+use Rattle.scp_words.specs.scp_ledger.specs.declared.took.CommandFate.{CommandFate}
+use Rattle.scp_words.specs.scp_ledger.specs.declared.journal.Decision.{Decision}
+use Rattle.scp_words.specs.scp_ledger.specs.declared.journal.Fate.{Fate}
+use Rattle.scp_words.specs.scp_ledger.specs.declared.journal.Fate.TheVariants as fate
+use Rattle.scp_words.specs.scp_ledger.specs.declared.journal.Origin.{Origin}
+use Rattle.scp_words.specs.scp_ledger.specs.declared.journal.Origin.TheVariants.{Machine, Named}
+use Rattle.scp_words.specs.scp_ledger.specs.declared.journal.Verdict.{Verdict}
+use Rattle.scp_facts.specs.scp_core.specs.declared.config.Config.{Config}
+use Rattle.scp_facts.specs.scp_core.specs.History.{peer_at}
+use Rattle.scp_facts.specs.scp_core.specs.Kv.{NodeView}
+use Rattle.scp_stand_slot.specs.scp_text.specs.Values.{value_text}
 use Rattle.scp_words.specs.Words.{verdict_word, cause_word, drop_word}
 use Rattle.scp_stand_slot.specs.declared.names.Names.{Names}
 use Rattle.scp_stand_slot.specs.Names.{node_name, name_of, nodes_text, statement_text}

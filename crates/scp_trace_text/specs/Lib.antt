@@ -1,3 +1,4 @@
+pub use Rattle.scp_facts
 pub mod Words
 pub mod Messages
 pub mod Commands

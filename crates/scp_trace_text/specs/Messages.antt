@@ -2,18 +2,18 @@
 -- their names.
 use Rattle.std.specs.Prelude.{ℕ, List, ◌++◌, Option, Some, None, codes}
 use Rattle.std.specs.Fmt.{decimal}
-use Rattle.scp_types.specs.declared.names.ConnId.{ConnId}
-use Rattle.scp_types.specs.declared.names.Hash.{Hash}
-use Rattle.scp_types.specs.declared.names.Seq.{Seq}
-use Rattle.scp_types.specs.declared.names.Slot.{Slot}
-use Rattle.scp_quorum.specs.QuorumTree.{QuorumTree}
-use Rattle.scp_envelope.specs.declared.statement.Envelope.{Envelope as Signed}
-use Rattle.scp_wire.specs.declared.message.Message.{Message}
-use Rattle.scp_wire.specs.declared.message.Message.TheVariants.{Envelope, GetSet, Set, NoSet, GetRecord, Record, Records}
-use Rattle.scp_wire.specs.declared.side.SideMessage.{SideMessage}
-use Rattle.scp_wire.specs.declared.side.SideMessage.TheVariants as side
-use Rattle.scp_text.specs.Values.{value_text}
-use Rattle.scp_text.specs.Messages.{values_text}
+use Rattle.scp_words.specs.scp_types.specs.declared.names.ConnId.{ConnId}
+use Rattle.scp_words.specs.scp_types.specs.declared.names.Hash.{Hash}
+use Rattle.scp_words.specs.scp_types.specs.declared.names.Seq.{Seq}
+use Rattle.scp_words.specs.scp_types.specs.declared.names.Slot.{Slot}
+use Rattle.scp_words.specs.scp_quorum.specs.QuorumTree.{QuorumTree}
+use Rattle.scp_words.specs.scp_envelope.specs.declared.statement.Envelope.{Envelope as Signed}
+use Rattle.scp_words.specs.scp_wire.specs.declared.message.Message.{Message}
+use Rattle.scp_words.specs.scp_wire.specs.declared.message.Message.TheVariants.{Envelope, GetSet, Set, NoSet, GetRecord, Record, Records}
+use Rattle.scp_words.specs.scp_wire.specs.declared.side.SideMessage.{SideMessage}
+use Rattle.scp_words.specs.scp_wire.specs.declared.side.SideMessage.TheVariants as side
+use Rattle.scp_stand_slot.specs.scp_text.specs.Values.{value_text}
+use Rattle.scp_stand_slot.specs.scp_text.specs.Messages.{values_text}
 use Rattle.scp_words.specs.Words.{hex_word}
 use Rattle.scp_stand_slot.specs.declared.names.Names.{Names}
 use Rattle.scp_stand_slot.specs.Names.{node_name, set_named, name_of, statement_text}

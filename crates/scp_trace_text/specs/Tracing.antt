@@ -1,10 +1,10 @@
 -- What is written about the steps of a node (this project's profile).
 use Rattle.std.specs.Prelude.{ℕ, ◌≡◌, Bool, true, false, List, [], ◌++◌, Option, flat_map, codes, if◌then◌else◌}
-use Rattle.scp_types.specs.declared.names.NodeId.{NodeId}
-use Rattle.scp_turn.specs.scp_core.specs.History.{Exchange}
-use Rattle.scp_turn.specs.scp_core.specs.Kv.{NodeView}
-use Rattle.scp_device.specs.Device.{Gains}
-use Rattle.scp_turn.specs.Kv.{Noting, Watched}
+use Rattle.scp_words.specs.scp_types.specs.declared.names.NodeId.{NodeId}
+use Rattle.scp_facts.specs.scp_core.specs.History.{Exchange}
+use Rattle.scp_facts.specs.scp_core.specs.Kv.{NodeView}
+use Rattle.scp_stand_slot.specs.scp_device.specs.Device.{Gains}
+use Rattle.scp_facts.specs.scp_turn.specs.Kv.{Noting, Watched}
 use Rattle.scp_stand_slot.specs.declared.names.Names.{Names}
 use Rattle.scp_stand_slot.specs.Names.{node_name}
 use Rattle.scp_facts.specs.declared.fact.Fact.{Fact}

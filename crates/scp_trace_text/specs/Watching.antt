@@ -1,13 +1,13 @@
 -- What a watch knows of a step before it is taken, and what it writes after it, which is what happened in the step (this project's
 -- profile).
 use Rattle.std.specs.Prelude.{ℕ, ◌≡◌, ◌⊎◌, Bool, true, false, List, [], Option, flat_map}
-use Rattle.scp_turn.specs.scp_core.specs.declared.event.Event.{Event}
-use Rattle.scp_turn.specs.scp_core.specs.declared.event.Reply.{Reply}
-use Rattle.scp_turn.specs.scp_core.specs.History.{Exchange}
-use Rattle.scp_turn.specs.scp_core.specs.Kv.{NodeView}
-use Rattle.scp_device.specs.Device.{Gains}
-use Rattle.scp_turn.specs.Watch.{notes}
-use Rattle.scp_turn.specs.Kv.{Noting, Watched}
+use Rattle.scp_facts.specs.scp_core.specs.declared.event.Event.{Event}
+use Rattle.scp_facts.specs.scp_core.specs.declared.event.Reply.{Reply}
+use Rattle.scp_facts.specs.scp_core.specs.History.{Exchange}
+use Rattle.scp_facts.specs.scp_core.specs.Kv.{NodeView}
+use Rattle.scp_stand_slot.specs.scp_device.specs.Device.{Gains}
+use Rattle.scp_facts.specs.scp_turn.specs.Watch.{notes}
+use Rattle.scp_facts.specs.scp_turn.specs.Kv.{Noting, Watched}
 use Rattle.scp_stand_slot.specs.declared.names.Names.{Names}
 use Rattle.scp_facts.specs.declared.fact.Telling.{Telling}
 use Rattle.scp_facts.specs.declared.fact.Telling.TheVariants.{Line, Of}

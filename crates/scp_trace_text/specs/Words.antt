@@ -1,15 +1,15 @@
 -- The words of a trace (this project's profile).
 use Rattle.std.specs.Prelude.{ℕ, List, Option, Some, None, Bool, true, false, codes}
-use Rattle.scp_envelope.specs.declared.statement.Pledges.{Pledges}
-use Rattle.scp_envelope.specs.declared.statement.Pledges.TheVariants.{Prepare, Confirm, Externalize, Nominate}
-use Rattle.scp_pending.specs.declared.becoming.Why.{Why}
-use Rattle.scp_pending.specs.declared.becoming.Why.TheVariants.{Asks, Waits, Behind, Over}
-use Rattle.scp_pending.specs.declared.becoming.Becoming.{Becoming}
-use Rattle.scp_pending.specs.declared.becoming.Becoming.TheVariants as becoming
-use Rattle.scp_ledger.specs.declared.took.CommandFate.{CommandFate}
-use Rattle.scp_ledger.specs.declared.took.CommandFate.TheVariants as fate
-use Rattle.scp_ledger.specs.declared.journal.Verdict.{Verdict}
-use Rattle.scp_ledger.specs.declared.journal.Verdict.TheVariants as verdict
+use Rattle.scp_words.specs.scp_envelope.specs.declared.statement.Pledges.{Pledges}
+use Rattle.scp_words.specs.scp_envelope.specs.declared.statement.Pledges.TheVariants.{Prepare, Confirm, Externalize, Nominate}
+use Rattle.scp_words.specs.scp_pending.specs.declared.becoming.Why.{Why}
+use Rattle.scp_words.specs.scp_pending.specs.declared.becoming.Why.TheVariants.{Asks, Waits, Behind, Over}
+use Rattle.scp_words.specs.scp_pending.specs.declared.becoming.Becoming.{Becoming}
+use Rattle.scp_words.specs.scp_pending.specs.declared.becoming.Becoming.TheVariants as becoming
+use Rattle.scp_words.specs.scp_ledger.specs.declared.took.CommandFate.{CommandFate}
+use Rattle.scp_words.specs.scp_ledger.specs.declared.took.CommandFate.TheVariants as fate
+use Rattle.scp_words.specs.scp_ledger.specs.declared.journal.Verdict.{Verdict}
+use Rattle.scp_words.specs.scp_ledger.specs.declared.journal.Verdict.TheVariants as verdict
 
 -- What became of a command, in the verdicts for messages. `Fresh` means that it changed something, `Idle` that it could have but didn't,
 -- and `Already` that its slot is decided. The other verdicts are named as the fates are.

@@ -1,15 +1,15 @@
 //! The commands of a node as text.
 ghost use Rattle.std.specs.Prelude.{◌≡◌, ◌++◌, OnOk, IsOkUnless, codes, string_bytes};
 ghost use Rattle.std.specs.Fmt.{decimal};
-ghost use Rattle.scp_turn.specs.scp_core.specs.History.{peer_at};
-ghost use Rattle.scp_text.specs.Values.{value_text};
+ghost use Rattle.scp_facts.specs.scp_core.specs.History.{peer_at};
+ghost use Rattle.scp_stand_slot.specs.scp_text.specs.Values.{value_text};
 ghost use Rattle.scp_stand_slot.specs.Names.{node_name};
 ghost use Rattle.scp_trace_text.specs.Commands.{with_one, command_words};
 
+use scp_facts::below::turn::{Command, Node};
 use scp_stand_slot::Names;
-use scp_text::Term;
-use scp_turn::{Command, Node};
-use scp_types::{Fault, NodeId, Slot, Value};
+use scp_stand_slot::below::text::Term;
+use scp_words::below::types::{Fault, NodeId, Slot, Value};
 
 /// Adds a word followed by a number.
 pub fn write_one(out: &mut String, word: &str, a: u64) -> Result<(), Fault>

@@ -1,6 +1,6 @@
 //! The lines of facts.
 ghost use Rattle.std.specs.Prelude.{◌≡◌, ◌++◌, ◌∷◌, IfOk, OnOk, IsOkUnless, map, option_map, slice_get, Some, string_bytes};
-ghost use Rattle.scp_turn.specs.scp_core.specs.History.{peer_at};
+ghost use Rattle.scp_facts.specs.scp_core.specs.History.{peer_at};
 ghost use Rattle.scp_stand_slot.specs.Names.{node_name};
 ghost use Rattle.scp_trace_text.specs.Words.{side_word};
 ghost use Rattle.scp_trace_text.specs.Facts.{full_line, discarded_line, opened_line, parked_line, side_line, tick_line, missed_line, took_line, conflict_line, dropped_line, closed_line, entry_lines, command_line, says_line, machine_words, record_words, origin_words, decided_line, applied_line, answers_line, sent_line, fact_line};
@@ -10,15 +10,17 @@ use crate::messages::{
     write_conn, write_envelope, write_message, write_place, write_sent, write_side,
 };
 use crate::words::{verdict_of, word_of_answer, word_of_side, word_of_why};
-use scp_envelope::SharedEnvelope;
 use scp_facts::Fact;
-use scp_ledger::Quorum;
-use scp_pending::{Becoming, DropCause, Why};
+use scp_facts::below::turn::{
+    Command, CommandFate, Decision, Fate, Node, Origin, SharedDecision, Verdict,
+};
+use scp_stand_slot::below::text::Term;
 use scp_stand_slot::{Names, write_nodes};
-use scp_text::Term;
-use scp_turn::{Command, CommandFate, Decision, Fate, Node, Origin, SharedDecision, Verdict};
-use scp_types::{ConnId, Fault, Hash, NodeId, Seq, Slot};
-use scp_wire::{Cause, Message, SideMessage};
+use scp_words::below::envelope::SharedEnvelope;
+use scp_words::below::ledger::Quorum;
+use scp_words::below::pending::{Becoming, DropCause, Why};
+use scp_words::below::types::{ConnId, Fault, Hash, NodeId, Seq, Slot};
+use scp_words::below::wire::{Cause, Message, SideMessage};
 use scp_words::{word_of_cause, word_of_drop, word_of_verdict};
 use std::alloc::Global;
 

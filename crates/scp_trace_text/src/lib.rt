@@ -16,6 +16,7 @@
 //! We don't claim that what is written reaches anybody before the next step.
 #![tactic(auto)]
 
+pub mod below;
 mod commands;
 mod facts;
 mod laws;

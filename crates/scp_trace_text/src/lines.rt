@@ -4,10 +4,10 @@ ghost use Rattle.scp_trace_text.specs.Tracing.{tells_full, live_text};
 ghost use Rattle.scp_trace_text.specs.Watching.{telling_text};
 
 use crate::facts::{Place, write_fact, write_front};
+use scp_facts::below::turn::Node;
 use scp_facts::{Fact, Telling};
 use scp_stand_slot::Names;
-use scp_turn::Node;
-use scp_types::Fault;
+use scp_words::below::types::Fault;
 use std::alloc::Global;
 
 /// Whether a fact says that a queue was full.

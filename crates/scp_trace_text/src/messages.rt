@@ -1,16 +1,16 @@
 //! Connections and messages as text.
 ghost use Rattle.std.specs.Prelude.{◌≡◌, ◌++◌, OnOk, IsOkUnless, string_bytes};
-ghost use Rattle.scp_wire.specs.Reading.{reading_of};
+ghost use Rattle.scp_words.specs.scp_wire.specs.Reading.{reading_of};
 ghost use Rattle.scp_stand_slot.specs.Names.{statement_text};
 ghost use Rattle.scp_trace_text.specs.Messages.{conn_text, place_text, get_set_text, set_message_text, no_set_text, get_record_text, record_text, records_text, message_named, side_named, kind_text, sent_message_text, sent_text};
 
 use crate::words::word_of_kind;
-use scp_envelope::{Envelope, ValueList};
-use scp_quorum::QuorumSet;
+use scp_stand_slot::below::text::Term;
 use scp_stand_slot::{Names, write_set, write_statement, write_values};
-use scp_text::Term;
-use scp_types::{ConnId, Fault, Hash, Seq, Slot, Value};
-use scp_wire::{Message, SideMessage, decode};
+use scp_words::below::envelope::{Envelope, ValueList};
+use scp_words::below::quorum::QuorumSet;
+use scp_words::below::types::{ConnId, Fault, Hash, Seq, Slot, Value};
+use scp_words::below::wire::{Message, SideMessage, decode};
 use scp_words::write_hex;
 
 /// Adds a connection.

@@ -3,10 +3,10 @@ ghost use Rattle.std.specs.Prelude.{◌≡◌, ◌++◌, ◌-◌, Bool, IfOk, On
 ghost use Rattle.scp_trace_text.specs.Facts.{told_line, is_shown as is_shown_by, shown_of, shown as shown_by, sent_in as sent_by, link_in as link_by, are_same, goes_with as goes_with_by, others as others_by, goes_with_last as goes_with_last_by, told_lines, facts_text};
 
 use crate::facts::{Place, write_fact};
+use scp_facts::below::turn::Node;
 use scp_facts::{Fact, Telling, Told};
 use scp_stand_slot::Names;
-use scp_turn::Node;
-use scp_types::Fault;
+use scp_words::below::types::Fault;
 use std::alloc::Global;
 
 /// Whether a fact is shown. A message or command that only came in isn't.

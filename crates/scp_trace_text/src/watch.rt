@@ -4,11 +4,11 @@ ghost use Rattle.std.specs.Bool.{OnFalse};
 ghost use Rattle.scp_trace_text.specs.Watching.{untold, WritesStep};
 
 use crate::lines::lines_of;
-use scp_device::{ReportOut, write_text};
 use scp_facts::FactWatch;
+use scp_facts::below::turn::{Event, KvDriver, Node, Reply, Watch};
 use scp_stand_slot::Names;
-use scp_turn::{Event, KvDriver, Node, Reply, Watch};
-use scp_types::Fault;
+use scp_stand_slot::below::device::{ReportOut, write_text};
+use scp_words::below::types::Fault;
 use std::alloc::Global;
 use std::marker::Model;
 

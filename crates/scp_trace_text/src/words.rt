@@ -2,9 +2,9 @@
 ghost use Rattle.std.specs.Prelude.{◌≡◌, option_map};
 ghost use Rattle.scp_trace_text.specs.Words.{verdict_of as verdict_by, why_word, side_word, kind_word, answer_word};
 
-use scp_envelope::Pledges;
-use scp_ledger::{CommandFate, Verdict};
-use scp_pending::{Becoming, Why};
+use scp_words::below::envelope::Pledges;
+use scp_words::below::ledger::{CommandFate, Verdict};
+use scp_words::below::pending::{Becoming, Why};
 
 /// What became of a command, in the verdicts for messages.
 pub(crate) fn verdict_of(fate: CommandFate) -> Verdict

@@ -6,8 +6,8 @@ use Rattle.std.specs.Prelude.{min}
 use Rattle.std.proofs.lemmas.Bool.{cases_eq}
 use Rattle.std.proofs.Math.Nat.{min-eq_left}
 use Rattle.std.proofs.lemmas.Option.{slice_get_within}
-use Rattle.scp_driver.specs.Driver.{Says}
-use Rattle.scp_pending.specs.Pends.{IsIdle}
+use Rattle.scp_core.specs.scp_driver.specs.Driver.{Says}
+use Rattle.scp_core.specs.scp_pending.specs.Pends.{IsIdle}
 use Rattle.scp_core.specs.declared.event.Event.{Event}
 use Rattle.scp_core.specs.declared.event.Event.TheVariants as event
 use Rattle.scp_core.specs.declared.event.Reply.{Reply}
@@ -17,7 +17,7 @@ use Rattle.scp_core.specs.Flow.{Flows}
 use Rattle.scp_core.specs.Node.{LinkView, NodeView, Refuses, Step}
 use Rattle.scp_turn.specs.Turn.{Does, links_of, IsStill, IsStillReply, events_of, reader_events, stage_events}
 use Rattle.scp_turn.specs.Laws.{IsAtRest, StillIsAtRest}
-use Rattle.scp_types.specs.declared.limits.TheConstants.{LINK_LIMIT}
+use Rattle.scp_core.specs.scp_types.specs.declared.limits.TheConstants.{LINK_LIMIT}
 use Rattle.scp_turn.specs.inside.Acting.{IsStage}
 use Rattle.scp_turn.proofs.Going.{all_on, all_apart}
 

@@ -1,9 +1,9 @@
 -- Why a node failed, of all that it heard.
 use Rattle.std.proofs.Common.{◌≡◌, Bool, true, false, List, [], ◌∷◌, refl, sym, ◌∙◌, ap, subst, arith, Option, inl, inr, ⊎_elim}
 use Rattle.std.specs.Prelude.{Err, Some, None, is_some, IsErrOf, ◌⊎◌, ◌↔◌, ◌||◌, if◌then◌else◌}
-use Rattle.scp_driver.specs.Driver.{Says}
-use Rattle.scp_types.specs.declared.fault.Fault.{Fault}
-use Rattle.scp_types.specs.declared.fault.Fault.TheVariants.{JournalFull, NoMemory}
+use Rattle.scp_core.specs.scp_driver.specs.Driver.{Says}
+use Rattle.scp_core.specs.scp_types.specs.declared.fault.Fault.{Fault}
+use Rattle.scp_core.specs.scp_types.specs.declared.fault.Fault.TheVariants.{JournalFull, NoMemory}
 use Rattle.scp_core.specs.declared.event.Event.{Event}
 use Rattle.scp_core.specs.declared.event.Reply.{Reply}
 use Rattle.scp_core.specs.declared.event.Reply.TheVariants as reply

@@ -5,26 +5,26 @@ use Rattle.std.specs.List.{AllByRecursion}
 use Rattle.std.proofs.lemmas.Grind.{flat_map-append}
 use Rattle.std.proofs.lemmas.List.{append_cancel_left, map-append}
 use Rattle.std.proofs.lemmas.Option.{slice_get_within}
-use Rattle.scp_driver.specs.Driver.{Says}
-use Rattle.scp_types.specs.declared.names.NodeId.{NodeId}
-use Rattle.scp_wire.specs.declared.link.Command.{Command}
-use Rattle.scp_wire.specs.declared.link.Command.TheVariants.{Tick, Propose, Round, Timer, Ask}
-use Rattle.scp_wire.specs.declared.link.Inbound.{Inbound}
-use Rattle.scp_wire.specs.declared.link.Inbound.TheVariants as inbound
-use Rattle.scp_wire.specs.declared.link.LinkItem.{LinkItem}
-use Rattle.scp_wire.specs.ReaderLaws.{ReadingsAreInOrder}
-use Rattle.scp_wire.specs.Shape.{Tail, goes, never_open, AreOfLink, Come, comes, nothing_came, MayCome, AreInOrder}
-use Rattle.scp_pending.specs.declared.ready.Ready.{Ready}
-use Rattle.scp_pending.specs.declared.ready.Ready.TheVariants as ready
-use Rattle.scp_pending.specs.Endings.{passing_command, passing, passed, commands_in, commands_of}
-use Rattle.scp_pending.specs.Laws.{CommandsPass}
-use Rattle.scp_pending.specs.Pends.{Pends}
-use Rattle.scp_pending.specs.Rules.{PendingView}
-use Rattle.scp_ledger.specs.declared.took.CommandFate.{CommandFate}
-use Rattle.scp_ledger.specs.declared.took.Took.{Took}
-use Rattle.scp_ledger.specs.By.{TellsBy}
-use Rattle.scp_ledger.specs.CommandFates.{IsProposalFate, IsRoundFate, IsTimerFate, IsAskFate, TellsCommand}
-use Rattle.scp_ledger.specs.Seen.{LedgerView}
+use Rattle.scp_core.specs.scp_driver.specs.Driver.{Says}
+use Rattle.scp_core.specs.scp_types.specs.declared.names.NodeId.{NodeId}
+use Rattle.scp_core.specs.scp_wire.specs.declared.link.Command.{Command}
+use Rattle.scp_core.specs.scp_wire.specs.declared.link.Command.TheVariants.{Tick, Propose, Round, Timer, Ask}
+use Rattle.scp_core.specs.scp_wire.specs.declared.link.Inbound.{Inbound}
+use Rattle.scp_core.specs.scp_wire.specs.declared.link.Inbound.TheVariants as inbound
+use Rattle.scp_core.specs.scp_wire.specs.declared.link.LinkItem.{LinkItem}
+use Rattle.scp_core.specs.scp_wire.specs.ReaderLaws.{ReadingsAreInOrder}
+use Rattle.scp_core.specs.scp_wire.specs.Shape.{Tail, goes, never_open, AreOfLink, Come, comes, nothing_came, MayCome, AreInOrder}
+use Rattle.scp_core.specs.scp_pending.specs.declared.ready.Ready.{Ready}
+use Rattle.scp_core.specs.scp_pending.specs.declared.ready.Ready.TheVariants as ready
+use Rattle.scp_core.specs.scp_pending.specs.Endings.{passing_command, passing, passed, commands_in, commands_of}
+use Rattle.scp_core.specs.scp_pending.specs.Laws.{CommandsPass}
+use Rattle.scp_core.specs.scp_pending.specs.Pends.{Pends}
+use Rattle.scp_core.specs.scp_pending.specs.Rules.{PendingView}
+use Rattle.scp_core.specs.scp_ledger.specs.declared.took.CommandFate.{CommandFate}
+use Rattle.scp_core.specs.scp_ledger.specs.declared.took.Took.{Took}
+use Rattle.scp_core.specs.scp_ledger.specs.By.{TellsBy}
+use Rattle.scp_core.specs.scp_ledger.specs.CommandFates.{IsProposalFate, IsRoundFate, IsTimerFate, IsAskFate, TellsCommand}
+use Rattle.scp_core.specs.scp_ledger.specs.Seen.{LedgerView}
 use Rattle.scp_core.specs.declared.event.Event.{Event}
 use Rattle.scp_core.specs.declared.event.Event.TheVariants.{Open, Send, Close, Local, ReaderTake, ReaderPut, PendTake, PendPut, SlotTake, SlotPut, ApplyTake, Drain}
 use Rattle.scp_core.specs.declared.event.Reply.{Reply}

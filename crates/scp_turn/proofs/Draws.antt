@@ -2,13 +2,13 @@
 use Rattle.std.proofs.Common.{◌≡◌, ◌≢◌, ◌+◌, ℕ, zero, suc, List, [], ◌∷◌, ◌++◌, refl, sym, ◌∙◌, ap, subst, append_assoc, append-nil, arith}
 use Rattle.std.specs.Prelude.{slice_get, slice_set, replicate, if◌then◌else◌, nat_eq, Result, Ok, Err, OnOk}
 use Rattle.std.proofs.lemmas.Result.{on_ok_weaker}
-use Rattle.scp_types.specs.declared.fault.Fault.{Fault}
+use Rattle.scp_core.specs.scp_types.specs.declared.fault.Fault.{Fault}
 use Rattle.std.proofs.lemmas.List.{map-append}
 use Rattle.std.proofs.lemmas.Grind.{flat_map-append}
-use Rattle.scp_driver.specs.Driver.{Says}
-use Rattle.scp_outbox.specs.Outbox.{OutboxView}
-use Rattle.scp_outbox.specs.Handing.{waiting_in, waiting_at}
-use Rattle.scp_wire.specs.declared.link.Bytes.{Bytes}
+use Rattle.scp_core.specs.scp_driver.specs.Driver.{Says}
+use Rattle.scp_core.specs.scp_outbox.specs.Outbox.{OutboxView}
+use Rattle.scp_core.specs.scp_outbox.specs.Handing.{waiting_in, waiting_at}
+use Rattle.scp_core.specs.scp_wire.specs.declared.link.Bytes.{Bytes}
 use Rattle.scp_core.specs.declared.event.Event.{Event}
 use Rattle.scp_core.specs.declared.event.Event.TheVariants as event
 use Rattle.scp_core.specs.declared.event.Reply.{Reply}

@@ -3,15 +3,15 @@ use Rattle.std.proofs.Common.{◌≡◌, ◌≢◌, Bool, true, false, List, [],
 use Rattle.std.specs.Prelude.{Result, Ok, Err, IfOk, OnOk, IsErrOf, ◌↔◌, None}
 use Rattle.std.proofs.lemmas.Result.{on_ok_weaker}
 use Rattle.std.proofs.lemmas.Grind.{flat_map-append}
-use Rattle.scp_driver.specs.Driver.{Says}
-use Rattle.scp_types.specs.declared.fault.Fault.{Fault}
-use Rattle.scp_types.specs.declared.fault.Fault.TheVariants.{JournalFull, Failed}
+use Rattle.scp_core.specs.scp_driver.specs.Driver.{Says}
+use Rattle.scp_core.specs.scp_types.specs.declared.fault.Fault.{Fault}
+use Rattle.scp_core.specs.scp_types.specs.declared.fault.Fault.TheVariants.{JournalFull, Failed}
 use Rattle.scp_core.specs.declared.event.Event.{Event}
 use Rattle.scp_core.specs.declared.event.Event.TheVariants as event
 use Rattle.scp_core.specs.declared.event.Reply.{Reply}
 use Rattle.scp_core.specs.declared.event.Reply.TheVariants as reply
 use Rattle.scp_core.specs.History.{Exchange}
-use Rattle.scp_wire.specs.declared.link.Bytes.{Bytes}
+use Rattle.scp_core.specs.scp_wire.specs.declared.link.Bytes.{Bytes}
 use Rattle.scp_core.specs.Node.{NodeView, SendsOut, Step, StepsSayWhy, TakesMemory}
 use Rattle.scp_core.specs.Theorem.{LedgerTheorem}
 use Rattle.scp_turn.specs.Turn.{Goes, Does, links_of}

@@ -1,6 +1,6 @@
 -- A node that heard one thing more.
 use Rattle.std.proofs.Common.{List, [], ◌∷◌, ◌++◌, refl}
-use Rattle.scp_driver.specs.Driver.{Says}
+use Rattle.scp_core.specs.scp_driver.specs.Driver.{Says}
 use Rattle.scp_core.specs.declared.event.Event.{Event}
 use Rattle.scp_core.specs.declared.event.Reply.{Reply}
 use Rattle.scp_core.specs.History.{Exchange}

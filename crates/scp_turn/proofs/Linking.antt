@@ -4,7 +4,7 @@ use Rattle.std.specs.Prelude.{remove, slice_get}
 use Rattle.std.proofs.lemmas.Option.{get_or_from_slice_get, slice_get_read}
 use Rattle.std.proofs.lemmas.List.{take-append-drop, map-append, length-map, length-take-le, take_rest}
 use Rattle.std.proofs.Math.Seq.{take-append_seam, drop-append_seam}
-use Rattle.scp_types.specs.declared.names.NodeId.{NodeId}
+use Rattle.scp_core.specs.scp_types.specs.declared.names.NodeId.{NodeId}
 use Rattle.scp_core.specs.Kv.{NodeView}
 use Rattle.scp_turn.specs.Heard.{Nodes}
 use Rattle.scp_turn.specs.Linked.{ids_of, HasOthers}

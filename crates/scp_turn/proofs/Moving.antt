@@ -1,6 +1,6 @@
 -- A stage moves something, or its reply is a still one.
 use Rattle.std.proofs.Common.{◌≡◌, ◌≢◌, ℕ, Bool, true, false, List, [], ◌∷◌, ◌++◌, refl, subst}
-use Rattle.scp_driver.specs.Driver.{Says}
+use Rattle.scp_core.specs.scp_driver.specs.Driver.{Says}
 use Rattle.scp_core.specs.declared.event.Event.{Event}
 use Rattle.scp_core.specs.declared.event.Event.TheVariants as event
 use Rattle.scp_core.specs.declared.event.Reply.{Reply}

@@ -3,8 +3,8 @@ use Rattle.std.proofs.Common.{◌≡◌, ◌<◌, ◌+◌, ℕ, zero, suc, Bool,
 use Rattle.std.specs.Prelude.{◌↔◌}
 use Rattle.std.specs.List.{AllByRecursion}
 use Rattle.std.proofs.lemmas.Grind.{flat_map-append}
-use Rattle.scp_types.specs.declared.limits.TheConstants.{ROUND_LIMIT}
-use Rattle.scp_driver.specs.Driver.{Says}
+use Rattle.scp_core.specs.scp_types.specs.declared.limits.TheConstants.{ROUND_LIMIT}
+use Rattle.scp_core.specs.scp_driver.specs.Driver.{Says}
 use Rattle.scp_core.specs.declared.event.Event.{Event}
 use Rattle.scp_core.specs.declared.event.Event.TheVariants as event
 use Rattle.scp_core.specs.declared.event.Reply.{Reply}

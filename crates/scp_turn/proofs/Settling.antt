@@ -1,7 +1,7 @@
 -- Rounds, one after the other, until the nodes come to rest.
 use Rattle.std.proofs.Common.{◌≡◌, ◌⊎◌, ◌<◌, ◌+◌, ℕ, suc, Bool, true, false, List, length, refl, sym, ◌∙◌, subst, arith}
 use Rattle.std.specs.Prelude.{◌↔◌}
-use Rattle.scp_types.specs.declared.limits.TheConstants.{ROUND_LIMIT}
+use Rattle.scp_core.specs.scp_types.specs.declared.limits.TheConstants.{ROUND_LIMIT}
 use Rattle.scp_turn.specs.Kv.{Noting}
 use Rattle.scp_turn.specs.Heard.{Nodes, Heard, Noted, With}
 use Rattle.scp_turn.specs.Rounds.{IsStill, IsRound, AreRounds, AllRun, RestsAs, Breaks, HasFailed}

@@ -1,7 +1,7 @@
 -- The commands that a slot stage takes in a run are the first of those that its node is given.
 use Rattle.std.proofs.Common.{List, [], ◌∷◌, ◌++◌, sym, subst, append_assoc, append-nil}
 use Rattle.std.proofs.lemmas.List.{flat_map_more}
-use Rattle.scp_driver.specs.Driver.{Says}
+use Rattle.scp_core.specs.scp_driver.specs.Driver.{Says}
 use Rattle.scp_turn.specs.Commands.{TakenCommand, given_by, given_in, taken_by, AreInTurn}
 use Rattle.scp_turn.specs.inside.InTurn.{NoneAreInTurn, StepsTakeInTurn}
 use Rattle.scp_core.specs.History.{Exchange}

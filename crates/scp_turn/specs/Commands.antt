@@ -1,10 +1,10 @@
 -- Which of the commands that a node is given its slot stage took (this project's profile).
 use Rattle.std.specs.Prelude.{◌≡◌, false, List, [], ◌∷◌, ◌++◌, Option, Some, None, map, flat_map, option_to_list, slice_get}
-use Rattle.scp_wire.specs.declared.link.Command.{Command}
-use Rattle.scp_pending.specs.declared.ready.Ready.{Ready}
-use Rattle.scp_pending.specs.declared.ready.Ready.TheVariants as ready
-use Rattle.scp_pending.specs.Endings.{passing_command, commands_in, commands_of}
-use Rattle.scp_ledger.specs.declared.took.CommandFate.{CommandFate}
+use Rattle.scp_core.specs.scp_wire.specs.declared.link.Command.{Command}
+use Rattle.scp_core.specs.scp_pending.specs.declared.ready.Ready.{Ready}
+use Rattle.scp_core.specs.scp_pending.specs.declared.ready.Ready.TheVariants as ready
+use Rattle.scp_core.specs.scp_pending.specs.Endings.{passing_command, commands_in, commands_of}
+use Rattle.scp_core.specs.scp_ledger.specs.declared.took.CommandFate.{CommandFate}
 use Rattle.scp_core.specs.declared.event.Event.{Event}
 use Rattle.scp_core.specs.declared.event.Event.TheVariants.{Local, SlotTake}
 use Rattle.scp_core.specs.declared.event.Reply.{Reply}

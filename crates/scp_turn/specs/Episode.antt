@@ -1,8 +1,8 @@
 -- What comes of an event that a host gives to a node: the node comes to rest, and then all that waits for a peer goes out.
 use Rattle.std.specs.Prelude.{ℕ, ◌≡◌, zero, suc, Bool, true, false, List, [], ◌∷◌, ◌++◌, replicate, flat_map, if◌then◌else◌}
 use Rattle.std.specs.List.{AllByRecursion, list_any}
-use Rattle.scp_driver.specs.Driver.{Says}
-use Rattle.scp_outbox.specs.Handing.{waiting_at}
+use Rattle.scp_core.specs.scp_driver.specs.Driver.{Says}
+use Rattle.scp_core.specs.scp_outbox.specs.Handing.{waiting_at}
 use Rattle.scp_core.specs.declared.event.Event.{Event}
 use Rattle.scp_core.specs.declared.event.Event.TheVariants as event
 use Rattle.scp_core.specs.declared.event.Reply.{Reply}

@@ -1,7 +1,7 @@
 -- Turns and episodes of nodes whose values are operation lists (this project's profile).
 use Rattle.std.specs.Prelude.{ℕ, Bool, List}
-use Rattle.scp_driver.specs.declared.kv_driver.KvDriver.{KvDriver}
-use Rattle.scp_driver.specs.Kv.{kv_says}
+use Rattle.scp_core.specs.scp_driver.specs.declared.kv_driver.KvDriver.{KvDriver}
+use Rattle.scp_core.specs.scp_driver.specs.Kv.{kv_says}
 use Rattle.scp_turn.specs.Commands.{TakenCommand}
 use Rattle.scp_core.specs.declared.event.Event.{Event}
 use Rattle.scp_core.specs.declared.event.Reply.{Reply}

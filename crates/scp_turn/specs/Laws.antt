@@ -1,7 +1,7 @@
 -- What follows from a turn in which nothing moves: the node has come to rest.
 use Rattle.std.specs.Prelude.{ℕ, ◌≡◌, false, List, [], Some, None, slice_get}
-use Rattle.scp_driver.specs.Driver.{Says}
-use Rattle.scp_pending.specs.Pends.{IsIdle}
+use Rattle.scp_core.specs.scp_driver.specs.Driver.{Says}
+use Rattle.scp_core.specs.scp_pending.specs.Pends.{IsIdle}
 use Rattle.scp_core.specs.Config.{IsConfigOfMany}
 use Rattle.scp_core.specs.History.{Exchange}
 use Rattle.scp_core.specs.Node.{LinkView, NodeView}

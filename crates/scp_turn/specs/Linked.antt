@@ -1,7 +1,7 @@
 -- What the nodes of a network are linked to.
 use Rattle.std.specs.Prelude.{ℕ, ◌≡◌, ◌≤◌, List, Some, length, map, remove, slice_get}
-use Rattle.scp_types.specs.declared.limits.TheConstants.{NETWORK_LIMIT}
-use Rattle.scp_types.specs.declared.names.NodeId.{NodeId}
+use Rattle.scp_core.specs.scp_types.specs.declared.limits.TheConstants.{NETWORK_LIMIT}
+use Rattle.scp_core.specs.scp_types.specs.declared.names.NodeId.{NodeId}
 use Rattle.scp_core.specs.Kv.{NodeView}
 use Rattle.scp_turn.specs.Heard.{Nodes}
 

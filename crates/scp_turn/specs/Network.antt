@@ -1,6 +1,6 @@
 -- What the nodes heard more, while something was done.
 use Rattle.std.specs.Prelude.{ℕ, ◌≡◌, ◌⊎◌, ◌<◌, Bool, true, false, List, ◌++◌, Option, Some, None, Result, Ok, Err, length, slice_set, replicate, ◌&&◌, nat_le, if◌then◌else◌}
-use Rattle.scp_types.specs.declared.limits.TheConstants.{NETWORK_LIMIT}
+use Rattle.scp_core.specs.scp_types.specs.declared.limits.TheConstants.{NETWORK_LIMIT}
 use Rattle.scp_core.specs.declared.event.Event.{Event}
 use Rattle.scp_core.specs.declared.event.Reply.{Reply}
 use Rattle.scp_turn.specs.declared.network.TheConstants.{PLACES}

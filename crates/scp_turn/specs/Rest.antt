@@ -1,7 +1,7 @@
 -- How a node comes to rest.
 use Rattle.std.specs.Prelude.{ℕ, ◌<◌, ◌≡◌, Bool, true, false, zero, suc, List, [], ◌++◌}
-use Rattle.scp_types.specs.declared.limits.TheConstants.{ROUND_LIMIT}
-use Rattle.scp_driver.specs.Driver.{Says}
+use Rattle.scp_core.specs.scp_types.specs.declared.limits.TheConstants.{ROUND_LIMIT}
+use Rattle.scp_core.specs.scp_driver.specs.Driver.{Says}
 use Rattle.scp_core.specs.History.{Exchange}
 use Rattle.scp_core.specs.Node.{NodeView}
 use Rattle.scp_turn.specs.Turn.{Does, IsStill, IsTurn}

@@ -1,9 +1,9 @@
 -- How nodes come to rest: by rounds, in which each node's stages do one step each, and then the next message of each of its outboxes goes out.
 use Rattle.std.specs.Prelude.{ℕ, ◌+◌, ◌-◌, ◌*◌, ◌<◌, ◌≤◌, ◌≡◌, ◌≢◌, ◌⊎◌, Bool, true, false, List, [], ◌∷◌, Option, Some, None, get_or, slice_get}
 use Rattle.std.specs.List.{AllByRecursion}
-use Rattle.scp_types.specs.declared.limits.TheConstants.{NETWORK_LIMIT, ROUND_LIMIT}
-use Rattle.scp_wire.specs.declared.link.Bytes.{Bytes}
-pub use Rattle.scp_wire.specs.Places.{link_of}
+use Rattle.scp_core.specs.scp_types.specs.declared.limits.TheConstants.{NETWORK_LIMIT, ROUND_LIMIT}
+use Rattle.scp_core.specs.scp_wire.specs.declared.link.Bytes.{Bytes}
+pub use Rattle.scp_core.specs.scp_wire.specs.Places.{link_of}
 use Rattle.scp_core.specs.declared.event.Event.{Event}
 use Rattle.scp_core.specs.declared.event.Event.TheVariants as event
 use Rattle.scp_core.specs.declared.event.Reply.{Reply}

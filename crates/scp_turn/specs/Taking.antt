@@ -1,6 +1,6 @@
 -- Which of the commands that a node is given in a run its slot stage took (this project's profile).
 use Rattle.std.specs.Prelude.{List, [], ◌∷◌, ◌++◌}
-use Rattle.scp_driver.specs.Driver.{Says}
+use Rattle.scp_core.specs.scp_driver.specs.Driver.{Says}
 use Rattle.scp_turn.specs.Commands.{TakenCommand, given_in, taken_by, AreInTurn}
 use Rattle.scp_core.specs.History.{Exchange}
 use Rattle.scp_core.specs.Node.{NodeView}

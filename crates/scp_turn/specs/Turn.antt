@@ -1,8 +1,8 @@
 -- What the stages of a node do in a turn.
 use Rattle.std.specs.Prelude.{ℕ, ◌≡◌, zero, suc, min, List, [], ◌∷◌, ◌++◌, map, length}
-use Rattle.scp_types.specs.declared.limits.TheConstants.{LINK_LIMIT}
+use Rattle.scp_core.specs.scp_types.specs.declared.limits.TheConstants.{LINK_LIMIT}
 use Rattle.std.specs.List.{AllByRecursion}
-use Rattle.scp_driver.specs.Driver.{Says}
+use Rattle.scp_core.specs.scp_driver.specs.Driver.{Says}
 use Rattle.scp_core.specs.declared.event.Event.{Event}
 use Rattle.scp_core.specs.declared.event.Event.TheVariants as event
 use Rattle.scp_core.specs.declared.event.Reply.{Reply}

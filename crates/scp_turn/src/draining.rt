@@ -8,9 +8,9 @@ ghost use Rattle.scp_turn.specs.inside.Draining.{Drained, GoesDraws, OthersStay}
 
 use crate::sending::Sending;
 use crate::{Watch, step_with};
+use scp_core::below::driver::Application;
+use scp_core::below::types::{Fault, LINK_LIMIT};
 use scp_core::{Bytes, Event, Node, Reply};
-use scp_driver::Application;
-use scp_types::{Fault, LINK_LIMIT};
 
 /// Adds what went out over a link.
 fn add(sent: &mut Vec<Sending>, link: u8, bytes: Bytes) -> Result<(), Fault>

@@ -3,10 +3,10 @@ ghost use Rattle.scp_turn.specs.Laws.{StillIsAtRest};
 ghost use Rattle.scp_turn.specs.inside.InTurn.{NoneAreInTurn, StepsTakeInTurn};
 ghost use Rattle.scp_turn.specs.Taking.{MoreIsTakenInTurn, AllIsTakenInTurn};
 
+use scp_core::below::driver::Driver;
+use scp_core::below::pending::each_command_passes_once;
+use scp_core::below::wire::what_is_read_keeps_the_shape;
 use scp_core::what_holds_of_a_past_holds_with_one_step_more;
-use scp_driver::Driver;
-use scp_pending::each_command_passes_once;
-use scp_wire::what_is_read_keeps_the_shape;
 
 /// A turn that moves nothing leaves the node as it was, with nothing in any queue or hand.
 pub fn what_is_still_is_at_rest<D: Driver + Drop + Copy>()

@@ -29,6 +29,7 @@
 //! - The ledger theorem holds of each node, for all that it heard.
 #![tactic(auto)]
 
+pub mod below;
 mod draining;
 mod laws;
 mod linked;
@@ -45,11 +46,11 @@ mod went_out;
 pub use laws::{each_command_is_taken_in_its_turn, what_is_still_is_at_rest};
 pub use network::Network;
 pub use playing::{Played, play, play_with};
+pub use scp_core::below::wire::link_of;
 pub use scp_core::{
     Command, CommandFate, Config, Decision, Event, Fate, KvDriver, Node, Origin, Peers, Reply,
     SharedDecision, Verdict, each_node_holds_its_headline, each_node_holds_its_ledger,
 };
-pub use scp_wire::link_of;
 pub use sending::Sending;
 pub use turns::{settle, step_with, turn, turn_with, work};
 pub use watch::{NoWatch, Watch};

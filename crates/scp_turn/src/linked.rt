@@ -3,7 +3,7 @@ ghost use Rattle.std.specs.Prelude.{◌≡◌, ◌<◌, ◌↔◌, ℕ, length, 
 ghost use Rattle.scp_turn.specs.Linked.{ids_of, HasOthers, IsNetwork};
 
 use crate::Node;
-use scp_types::{NETWORK_LIMIT, NodeId};
+use scp_core::below::types::{NETWORK_LIMIT, NodeId};
 
 /// The most nodes, as the length of a list.
 pub const SIDE: usize = NETWORK_LIMIT as usize;

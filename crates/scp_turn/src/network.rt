@@ -1,6 +1,6 @@
 //! The nodes, and the links on which the caller alone sends.
 ghost use Rattle.std.specs.Prelude.{◌≡◌, ◌⊎◌, ◌↔◌, IfOk, OnOk, IfErr, Err, None};
-ghost use Rattle.scp_types.specs.declared.fault.Fault.{Fault};
+ghost use Rattle.scp_core.specs.scp_types.specs.declared.fault.Fault.{Fault};
 ghost use Rattle.scp_turn.specs.Watch.{notes};
 ghost use Rattle.scp_turn.specs.Heard.{Noted, Anything};
 ghost use Rattle.scp_turn.specs.Network.{Drives, Offered, Settled, none_driven};
@@ -9,7 +9,7 @@ ghost use Rattle.scp_turn.specs.Linked.{IsNetwork};
 use crate::linked::{SIDE, is_network};
 use crate::stepping::hear;
 use crate::{Event, KvDriver, NoWatch, Node, Reply, Watch, rounds};
-use scp_types::{Fault, NETWORK_LIMIT};
+use scp_core::below::types::{Fault, NETWORK_LIMIT};
 use std::alloc::Global;
 use std::marker::Model;
 
@@ -29,13 +29,13 @@ impl Model for Network {
     ghost Value = { NetworkView };
 
     ghost use Rattle.std.specs.Prelude.{◌≡◌, ◌≤◌, length};
-    ghost use Rattle.scp_types.specs.declared.limits.TheConstants.{NETWORK_LIMIT};
+    ghost use Rattle.scp_core.specs.scp_types.specs.declared.limits.TheConstants.{NETWORK_LIMIT};
     ghost use Rattle.scp_turn.specs.declared.network.TheConstants.{PLACES};
     ghost use Rattle.std.specs.Coded.{codes};
-    ghost use Rattle.scp_xdr.specs.inside.TreeModel.{coded_row};
-    ghost use Rattle.scp_quorum.specs.inside.QuorumTree.{coded_level};
-    ghost use Rattle.scp_driver.specs.contracts.kv_driver.KvDriver as driver;
-    ghost use Rattle.scp_ledger.specs.inside.Coding.{machine_code};
+    ghost use Rattle.scp_core.specs.scp_xdr.specs.inside.TreeModel.{coded_row};
+    ghost use Rattle.scp_core.specs.scp_quorum.specs.inside.QuorumTree.{coded_level};
+    ghost use Rattle.scp_core.specs.scp_driver.specs.contracts.kv_driver.KvDriver as driver;
+    ghost use Rattle.scp_core.specs.scp_ledger.specs.inside.Coding.{machine_code};
 
     ghost coded = { Prim.hlevel (codes, machine_code driver.the_row.coded, coded_row coded_level) };
 

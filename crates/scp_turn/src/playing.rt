@@ -10,9 +10,9 @@ use crate::draining::drain;
 use crate::resting::rest;
 use crate::sending::Sending;
 use crate::{NoWatch, Watch, step_with};
+use scp_core::below::driver::Application;
+use scp_core::below::types::Fault;
 use scp_core::{Event, Node, Reply, each_step_says_why_it_failed};
-use scp_driver::Application;
-use scp_types::Fault;
 use std::alloc::Global;
 
 /// What came of an event: the reply to it, and what went out.

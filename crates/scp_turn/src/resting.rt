@@ -5,8 +5,8 @@ ghost use Rattle.scp_turn.specs.Rest.{Rests};
 
 use crate::{Watch, turn_with};
 use scp_core::Node;
-use scp_driver::Application;
-use scp_types::ROUND_LIMIT;
+use scp_core::below::driver::Application;
+use scp_core::below::types::ROUND_LIMIT;
 
 /// Brings a node to rest: turns, until one moves nothing, or 100,000; the watch is shown each step. Returns whether it came to rest.
 pub fn rest<A: Application + Drop + Copy, W: Watch<A>>(node: &mut Node<A>, watch: &mut W) -> bool

@@ -11,8 +11,8 @@ use crate::linked::SIDE;
 use crate::stepping::{hear, work_at};
 use crate::turns::either;
 use crate::{Event, KvDriver, Node, Reply, Watch};
-use scp_types::{NETWORK_LIMIT, ROUND_LIMIT};
-use scp_wire::link_of;
+use scp_core::below::types::{NETWORK_LIMIT, ROUND_LIMIT};
+use scp_core::below::wire::link_of;
 
 /// The number of a node's link from another, by the places of both from 0 on.
 fn link_at(from: usize, to: usize) -> u8

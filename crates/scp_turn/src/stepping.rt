@@ -1,6 +1,6 @@
 //! The steps of one node among several.
 ghost use Rattle.std.specs.Prelude.{◌≡◌, ◌<◌, ◌≤◌, ◌+◌, length};
-ghost use Rattle.scp_types.specs.declared.limits.TheConstants.{NETWORK_LIMIT};
+ghost use Rattle.scp_core.specs.scp_types.specs.declared.limits.TheConstants.{NETWORK_LIMIT};
 ghost use Rattle.scp_turn.specs.Watch.{notes};
 ghost use Rattle.scp_turn.specs.Turn.{stage_events};
 ghost use Rattle.scp_turn.specs.Heard.{Noted};

@@ -10,9 +10,9 @@ ghost use Rattle.scp_turn.specs.inside.Acting.{Acts, IsStage};
 
 use crate::resting::rest;
 use crate::watch::{NoWatch, Watch};
+use scp_core::below::driver::Application;
+use scp_core::below::types::LINK_LIMIT;
 use scp_core::{Event, Node, Reply};
-use scp_driver::Application;
-use scp_types::LINK_LIMIT;
 
 /// One event at the node of this number; the watch is shown it before and after.
 pub fn step_with<A: Application + Drop + Copy, W: Watch<A>>(

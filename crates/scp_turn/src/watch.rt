@@ -1,7 +1,7 @@
 //! Whoever is shown the steps of nodes.
 
+use scp_core::below::driver::Application;
 use scp_core::{Event, Node, Reply};
-use scp_driver::Application;
 
 /// Whoever is shown each step of a node: before it the event, and after it the reply, each with the node as it is then. A watch can't refuse
 /// a step. One that runs out of memory remembers that, and says so at the end.

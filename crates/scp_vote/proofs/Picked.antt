@@ -1,7 +1,7 @@
 -- A quorum among the picked sets is a quorum of the board among the nodes that were picked.
 use Rattle.std.proofs.Common.{◌≡◌, Bool, true, false, Option, Some, None, IsSome, IsSomeAnd, IsTrue, ◌↔◌, refl, sym, subst, ◌∙◌}
 use Rattle.std.specs.Option.{ForSome, option_map}
-use Rattle.scp_types.specs.declared.names.NodeId.{NodeId}
+use Rattle.scp_quorum.specs.scp_types.specs.declared.names.NodeId.{NodeId}
 use Rattle.scp_quorum.specs.QuorumTree.{QuorumTree}
 use Rattle.scp_quorum.specs.Satisfies.{Satisfies, Blocks}
 use Rattle.scp_quorum.specs.Quorum.{IsQuorum, IsGreatestQuorum, HasNoQuorum}

@@ -1,6 +1,6 @@
 -- Boards on which each node has the same statement and set.
 use Rattle.std.proofs.Common.{◌≡◌, Bool, Option, IsSomeAnd, sym, ◌∙◌, ap, subst, inl, inr}
-use Rattle.scp_types.specs.declared.names.NodeId.{NodeId}
+use Rattle.scp_quorum.specs.scp_types.specs.declared.names.NodeId.{NodeId}
 use Rattle.scp_quorum.specs.QuorumTree.{QuorumTree}
 use Rattle.scp_quorum.specs.Satisfies.{Satisfies, Blocks}
 use Rattle.scp_envelope.specs.declared.statement.Pledges.{Pledges}

@@ -8,7 +8,7 @@ use Rattle.std.specs.Bool.{OnTrue, OnFalse}
 use Rattle.std.proofs.lemmas.Bool.{OnTrue_at, OnFalse_at, OnTrue_from, OnFalse_from}
 use Rattle.std.proofs.lemmas.List.{get_or-set_same, get_or-set_other}
 use Rattle.std.proofs.lemmas.Grind.{common_steps}
-use Rattle.scp_types.specs.declared.names.NodeId.{NodeId}
+use Rattle.scp_quorum.specs.scp_types.specs.declared.names.NodeId.{NodeId}
 use Rattle.scp_quorum.specs.declared.quorum.places.Seat.{Seat}
 use Rattle.scp_quorum.specs.NodeSet.{node_cmp}
 use Rattle.scp_quorum.specs.QuorumTree.{QuorumTree}
@@ -17,7 +17,7 @@ use Rattle.scp_vote.specs.declared.statements.Entry.{Entry}
 use Rattle.scp_quorum.specs.Satisfies.{Satisfies, Blocks}
 use Rattle.scp_quorum.specs.Quorum.{IsQuorum, IsWithin, IsGreatestQuorum, HasNoQuorum}
 use Rattle.scp_quorum.proofs.Blocking.{Satisfies-within}
-use Rattle.scp_types.specs.declared.fault.Fault.{Fault}
+use Rattle.scp_quorum.specs.scp_types.specs.declared.fault.Fault.{Fault}
 use Rattle.scp_envelope.specs.declared.statement.Pledges.{Pledges}
 use Rattle.scp_vote.specs.declared.claim.Claim.{Claim}
 use Rattle.scp_vote.specs.declared.claim.Support.TheVariants.{VotesOrAccepts, Accepts}

@@ -2,7 +2,7 @@
 use Rattle.std.proofs.Common.{◌≡◌, ◌<◌, ℕ, zero, suc, Bool, true, false, cond, List, [], ◌∷◌, length, slice_get, Option, Some, None, IsSomeAnd, refl, sym, subst, ap, arith, ◌∙◌}
 use Rattle.std.specs.Option.{option_map}
 use Rattle.std.specs.BTreeMap as node_map
-use Rattle.scp_types.specs.declared.names.NodeId.{NodeId}
+use Rattle.scp_quorum.specs.scp_types.specs.declared.names.NodeId.{NodeId}
 use Rattle.scp_quorum.specs.declared.quorum.places.Seat.{Seat}
 use Rattle.scp_quorum.specs.NodeSet.{node_cmp}
 use Rattle.scp_quorum.specs.QuorumTree.{QuorumTree}

@@ -3,7 +3,7 @@ ghost use Rattle.std.specs.Prelude.{◌≡◌, ◌≢◌, ◌↔◌, IsTrue, IfO
 ghost use Rattle.std.specs.Option.{option_map, ForSome};
 ghost use Rattle.std.specs.BTreeMap as node_map;
 ghost use Rattle.std.specs.BTreeMap.{is_at};
-ghost use Rattle.scp_types.specs.declared.names.NodeId.{NodeId};
+ghost use Rattle.scp_quorum.specs.scp_types.specs.declared.names.NodeId.{NodeId};
 ghost use Rattle.scp_quorum.specs.NodeSet.{is_in, node_cmp};
 ghost use Rattle.scp_vote.specs.Board.{kind_of, kind_of_pledges, Accepted, Confirmed, Certificate, PutsCounted, IsNewBoard, KeepsOwn};
 ghost use Rattle.scp_vote.specs.declared.claim.StatementKind.{StatementKind};
@@ -13,7 +13,7 @@ use crate::statements::{Entry, Side};
 use crate::table::Table;
 use scp_envelope::SharedEnvelope;
 use scp_quorum::SaneSet;
-use scp_types::{Fault, NodeId};
+use scp_quorum::below::types::{Fault, NodeId};
 use std::alloc::Global;
 use std::collections::{BTreeMap, BTreeSet};
 use std::sync::Arc;

@@ -5,7 +5,7 @@ ghost use Rattle.scp_vote.specs.declared.claim.Support.TheVariants.{VotesOrAccep
 ghost use Rattle.scp_vote.specs.Board.{kind_of_pledges};
 
 use scp_envelope::{Pledges, Statement};
-use scp_types::{Ballot, SharedValue, Value};
+use scp_quorum::below::types::{Ballot, SharedValue, Value};
 
 /// What nodes vote for and accept (the SCP draft).
 #[derive(Drop)]

@@ -10,6 +10,7 @@
 //! - a put that runs out of memory leaves the board as it was.
 #![tactic(auto)]
 
+pub mod below;
 mod board;
 mod claim;
 mod statements;

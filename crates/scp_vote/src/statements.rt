@@ -4,8 +4,8 @@ ghost use Rattle.std.specs.Prelude.{◌≡◌, get_or, false};
 use crate::claim::{Claim, Support, stands, stands_too};
 use crate::table::{Table, mark};
 use scp_envelope::{Envelope, Pledges, SharedEnvelope};
+use scp_quorum::below::types::{Fault, NodeId};
 use scp_quorum::{Marked, Nodes, SaneSet, greatest_quorum_among};
-use scp_types::{Fault, NodeId};
 use std::alloc::{AllocError, Global};
 use std::collections::BTreeSet;
 use std::sync::Arc;
@@ -38,7 +38,7 @@ struct Standing {
 impl Side<'_> {
     ghost use Rattle.std.specs.Prelude.{◌≡◌, ◌↔◌, Bool, true, false, length, IsTrue, IfOk, IfSome, IfNone, IsOkUnless};
     ghost use Rattle.std.specs.Bool.{OnFalse, OnTrue};
-    ghost use Rattle.scp_types.specs.declared.names.NodeId.{NodeId};
+    ghost use Rattle.scp_quorum.specs.scp_types.specs.declared.names.NodeId.{NodeId};
     ghost use Rattle.scp_quorum.specs.NodeSet.{is_in};
     ghost use Rattle.scp_quorum.specs.Satisfies.{Blocks, Satisfies};
     ghost use Rattle.scp_quorum.specs.Quorum.{IsGreatestQuorum, HasNoQuorum};

@@ -6,8 +6,8 @@ ghost use Rattle.scp_vote.specs.inside.Seats.{AreSeated, KeepsSets, IsUnused, Is
 
 use crate::statements::Entry;
 use scp_envelope::SharedEnvelope;
+use scp_quorum::below::types::{Hash, NodeId};
 use scp_quorum::{Places, SaneSet, Seat};
-use scp_types::{Hash, NodeId};
 use std::alloc::{AllocError, Global};
 use std::collections::BTreeMap;
 use std::sync::Arc;

@@ -3,13 +3,13 @@ use Rattle.std.proofs.Common.{ℕ, ◌+◌, ◌*◌, ◌≤◌, List, [], ◌∷
 use Rattle.std.specs.Prelude.{Option, Some, None, option_map, Result, Ok, Err, IfOk, ◌++◌}
 use Rattle.std.specs.List.{AllByRecursion, sum_by}
 use Rattle.std.proofs.lemmas.List.Sums.{sum_by-cons}
-use Rattle.scp_types.specs.declared.ballot.Ballot.{Ballot}
-use Rattle.scp_types.specs.declared.fault.Fault.{Fault}
-use Rattle.scp_types.specs.declared.names.Slot.{Slot}
-use Rattle.scp_xdr.specs.Kind.{Values, Fits, Spells, optional}
-use Rattle.scp_xdr.specs.Length.{padded_len, spelled_len}
-use Rattle.scp_xdr.specs.Shared.{value_kind, ballot_kind, ballot_value}
-use Rattle.scp_xdr.proofs.Lengths.{length_is}
+use Rattle.scp_quorum.specs.scp_types.specs.declared.ballot.Ballot.{Ballot}
+use Rattle.scp_quorum.specs.scp_types.specs.declared.fault.Fault.{Fault}
+use Rattle.scp_quorum.specs.scp_types.specs.declared.names.Slot.{Slot}
+use Rattle.scp_quorum.specs.scp_xdr.specs.Kind.{Values, Fits, Spells, optional}
+use Rattle.scp_quorum.specs.scp_xdr.specs.Length.{padded_len, spelled_len}
+use Rattle.scp_quorum.specs.scp_xdr.specs.Shared.{value_kind, ballot_kind, ballot_value}
+use Rattle.scp_quorum.specs.scp_xdr.proofs.Lengths.{length_is}
 use Rattle.scp_envelope.specs.Kinds.{envelope_kind, envelope_value, pledges_kind, pledges_value, list_kind}
 use Rattle.scp_envelope.specs.declared.statement.Pledges.{Pledges}
 use Rattle.scp_envelope.specs.declared.statement.Pledges.TheVariants.{Prepare, Confirm, Externalize, Nominate}

@@ -2,10 +2,10 @@
 use Rattle.std.proofs.Common.{◌≡◌, ◌≢◌, ℕ, ◌+◌, ◌<◌, ◌≤◌, ◌⊎◌, Bool, true, false, ltb, List, ◌++◌, length, replicate, Result, Ok, Err, refl, arith, inl, inr, ltb-true, ltb-false}
 use Rattle.std.specs.Prelude.{IfOk, ◌↔◌}
 use Rattle.std.proofs.lemmas.List.{length-append, length-replicate}
-use Rattle.scp_types.specs.declared.fault.Fault.{Fault}
-use Rattle.scp_xdr.specs.Shared.{value_kind}
-use Rattle.scp_xdr.specs.Kind.{numbered, Values, Fits, Spells, spelling, word, long_word, padded, padding_len}
-use Rattle.scp_xdr.proofs.Lengths.{word_len, long_word_len}
+use Rattle.scp_quorum.specs.scp_types.specs.declared.fault.Fault.{Fault}
+use Rattle.scp_quorum.specs.scp_xdr.specs.Shared.{value_kind}
+use Rattle.scp_quorum.specs.scp_xdr.specs.Kind.{numbered, Values, Fits, Spells, spelling, word, long_word, padded, padding_len}
+use Rattle.scp_quorum.specs.scp_xdr.proofs.Lengths.{word_len, long_word_len}
 use Rattle.scp_quorum.specs.QuorumKind.{set_spelling}
 use Rattle.scp_envelope.specs.Kinds.{envelope_kind, envelope_value}
 use Rattle.scp_wire.specs.declared.message.Message.{Message}

@@ -1,7 +1,7 @@
 -- A carried message under its number.
 use Rattle.std.proofs.Common.{◌≡◌, ℕ, Bool, false, refl, ap, nat_eq}
 use Rattle.std.specs.Prelude.{if◌then◌else◌}
-use Rattle.scp_types.specs.declared.names.ConnId.{ConnId}
+use Rattle.scp_quorum.specs.scp_types.specs.declared.names.ConnId.{ConnId}
 use Rattle.scp_wire.specs.declared.message.Message.{Message}
 use Rattle.scp_wire.specs.declared.message.Message.TheVariants.{Envelope, GetSet, Set, NoSet, GetRecord, Record, Records}
 use Rattle.scp_wire.specs.declared.link.Inbound.{Inbound}

@@ -1,12 +1,12 @@
 -- The reading of bytes is the message that they encode.
 use Rattle.std.proofs.Common.{◌≡◌, ◌≢◌, ℕ, ◌<◌, ◌≤◌, Bool, true, false, cond, ltb, List, length, Some, None, Result, Ok, Err, refl, sym, ap, ◌∙◌, inl, inr, ltb-false, le-ltb, lt-ltb}
 use Rattle.std.specs.Prelude.{IfOk, IfErr}
-use Rattle.scp_types.specs.declared.fault.Fault.{Fault}
-use Rattle.scp_types.specs.declared.fault.Fault.TheVariants.{NoMemory, TooLong}
-use Rattle.scp_xdr.specs.Kind.{Values}
-use Rattle.scp_xdr.specs.Reading.{reading_whole}
-use Rattle.scp_xdr.specs.Words.{Gives}
-use Rattle.scp_xdr.proofs.Laws.{whole_found, whole_again}
+use Rattle.scp_quorum.specs.scp_types.specs.declared.fault.Fault.{Fault}
+use Rattle.scp_quorum.specs.scp_types.specs.declared.fault.Fault.TheVariants.{NoMemory, TooLong}
+use Rattle.scp_quorum.specs.scp_xdr.specs.Kind.{Values}
+use Rattle.scp_quorum.specs.scp_xdr.specs.Reading.{reading_whole}
+use Rattle.scp_quorum.specs.scp_xdr.specs.Words.{Gives}
+use Rattle.scp_quorum.specs.scp_xdr.proofs.Laws.{whole_found, whole_again}
 use Rattle.scp_quorum.proofs.SetValues.{set_again, set_value_again}
 use Rattle.scp_envelope.proofs.EnvelopeValues.{envelope_again, envelope_value_again}
 use Rattle.scp_wire.specs.declared.message.Message.{Message}

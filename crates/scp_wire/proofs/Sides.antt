@@ -1,13 +1,13 @@
 -- The first word of a message shows whether it is carried.
 use Rattle.std.proofs.Common.{◌≡◌, ℕ, ◌<◌, ◌≤◌, ◌⊎◌, true, false, eqb, List, length, Some, Result, Ok, Err, refl, sym, subst, ◌∙◌, inl, inr, eqb-true}
 use Rattle.std.specs.Prelude.{is_ok}
-use Rattle.scp_types.specs.declared.fault.Fault.{Fault}
-use Rattle.scp_xdr.specs.Kind.{Values, ArmValues, Arms, no_arm, arm, tag_of, uint64, numbered, both}
-use Rattle.scp_xdr.specs.Shared.{value_kind, hash_kind}
-use Rattle.scp_xdr.specs.Reading.{Cursor, start, ◌>>=◌, read_uint32, read_end, reading, reading_arm, reading_whole}
-use Rattle.scp_xdr.specs.Words.{PassesWhole}
-use Rattle.scp_xdr.proofs.Items.{chosen}
-use Rattle.scp_xdr.proofs.Parts.{bind_ok, ok_is}
+use Rattle.scp_quorum.specs.scp_types.specs.declared.fault.Fault.{Fault}
+use Rattle.scp_quorum.specs.scp_xdr.specs.Kind.{Values, ArmValues, Arms, no_arm, arm, tag_of, uint64, numbered, both}
+use Rattle.scp_quorum.specs.scp_xdr.specs.Shared.{value_kind, hash_kind}
+use Rattle.scp_quorum.specs.scp_xdr.specs.Reading.{Cursor, start, ◌>>=◌, read_uint32, read_end, reading, reading_arm, reading_whole}
+use Rattle.scp_quorum.specs.scp_xdr.specs.Words.{PassesWhole}
+use Rattle.scp_quorum.specs.scp_xdr.proofs.Items.{chosen}
+use Rattle.scp_quorum.specs.scp_xdr.proofs.Parts.{bind_ok, ok_is}
 use Rattle.scp_quorum.specs.QuorumKind.{set_kind}
 use Rattle.scp_envelope.specs.Kinds.{envelope_kind}
 use Rattle.scp_wire.specs.Message.{message_kind, message_of}

@@ -1,8 +1,8 @@
 -- The connections of a link: its lives.
 use Rattle.std.specs.Prelude.{ℕ}
-use Rattle.scp_types.specs.declared.names.ConnId.{ConnId}
-use Rattle.scp_types.specs.declared.names.NodeId.{NodeId}
-pub use Rattle.scp_types.specs.Same.{same_node, same_conn}
+use Rattle.scp_quorum.specs.scp_types.specs.declared.names.ConnId.{ConnId}
+use Rattle.scp_quorum.specs.scp_types.specs.declared.names.NodeId.{NodeId}
+pub use Rattle.scp_quorum.specs.scp_types.specs.Same.{same_node, same_conn}
 
 -- the life with this number of the link from the peer
 abbrev pub conn_at : NodeId → NodeId → ℕ → ConnId

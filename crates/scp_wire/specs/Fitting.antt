@@ -1,9 +1,9 @@
 -- Which messages fit a link, and which surely do (this project's profile).
 use Rattle.std.specs.Prelude.{ℕ, ◌≤◌, List, length}
-use Rattle.scp_types.specs.declared.limits.TheConstants.{VALUE_LIMIT}
-use Rattle.scp_types.specs.declared.names.Hash.{Hash}
-use Rattle.scp_types.specs.declared.names.Slot.{Slot}
-use Rattle.scp_xdr.specs.Kind.{Fits}
+use Rattle.scp_quorum.specs.scp_types.specs.declared.limits.TheConstants.{VALUE_LIMIT}
+use Rattle.scp_quorum.specs.scp_types.specs.declared.names.Hash.{Hash}
+use Rattle.scp_quorum.specs.scp_types.specs.declared.names.Slot.{Slot}
+use Rattle.scp_quorum.specs.scp_xdr.specs.Kind.{Fits}
 use Rattle.scp_quorum.specs.QuorumTree.{QuorumTree}
 use Rattle.scp_quorum.specs.Sane.{IsSane}
 use Rattle.scp_envelope.specs.Kinds.{envelope_kind, envelope_value}

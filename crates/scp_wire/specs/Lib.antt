@@ -1,3 +1,7 @@
+pub use Rattle.scp_quorum.specs.scp_types
+pub use Rattle.scp_quorum.specs.scp_xdr
+pub use Rattle.scp_quorum
+pub use Rattle.scp_envelope
 pub mod Boxed
 pub mod Message
 pub mod Fitting

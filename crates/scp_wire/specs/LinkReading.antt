@@ -1,8 +1,8 @@
 -- What a link's items are read as (this project's profile): carried messages, numbered 0, 1, 2, .. on each connection, a batch as its
 -- records, side messages, and the connection's end. After a connection's end everything is discarded up to the next Opened.
 use Rattle.std.specs.Prelude.{ℕ, ◌+◌, ◌≡◌, refl, Bool, true, false, ◌&&◌, List, [], ◌∷◌, ◌++◌, Option, Some, None, nat_eq, if◌then◌else◌, fold, drop}
-use Rattle.scp_types.specs.declared.limits.TheConstants.{CARRIED_LIMIT}
-use Rattle.scp_types.specs.declared.names.ConnId.{ConnId}
+use Rattle.scp_quorum.specs.scp_types.specs.declared.limits.TheConstants.{CARRIED_LIMIT}
+use Rattle.scp_quorum.specs.scp_types.specs.declared.names.ConnId.{ConnId}
 use Rattle.scp_wire.specs.declared.message.Message.{Message}
 use Rattle.scp_wire.specs.declared.message.Message.TheVariants.{Envelope, GetSet, Set, NoSet, GetRecord, Record, Records}
 use Rattle.scp_wire.specs.declared.side.SideMessage.TheVariants as side

@@ -1,6 +1,6 @@
 -- What a list of things says of one connection: all that belongs to it, and of that the numbers of its messages, and its end.
 use Rattle.std.specs.Prelude.{ℕ, ◌≡◌, Bool, false, List, [], ◌∷◌, ◌++◌, ◌⊎◌, filter, flat_map, if◌then◌else◌}
-use Rattle.scp_types.specs.declared.names.ConnId.{ConnId}
+use Rattle.scp_quorum.specs.scp_types.specs.declared.names.ConnId.{ConnId}
 use Rattle.scp_wire.specs.declared.message.Message.{Message}
 use Rattle.scp_wire.specs.declared.link.Cause.{Cause}
 use Rattle.scp_wire.specs.declared.link.Cause.TheVariants.{ParkedFull}

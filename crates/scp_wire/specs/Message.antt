@@ -1,12 +1,12 @@
 -- Link messages as values of a kind, and the limit for all of their bytes (this project's profile).
 use Rattle.std.specs.Prelude.{◌≡◌, ℕ, ◌^◌, ◌<◌, ◌≤◌, ◌⊎◌, List, length, Result, Err, nat_lt, if◌then◌else◌}
 use Rattle.std.proofs.Common.{inl, inr}
-use Rattle.scp_types.specs.declared.limits.TheConstants.{VALUE_LIMIT}
-use Rattle.scp_types.specs.declared.fault.Fault.{Fault}
-use Rattle.scp_types.specs.declared.fault.Fault.TheVariants.{TooLong}
-use Rattle.scp_xdr.specs.Kind.{Kind, uint64, numbered, both, union, no_arm, arm, Values, Spells, Fits, spelling}
-use Rattle.scp_xdr.specs.Reading.{reading_whole}
-use Rattle.scp_xdr.specs.Shared.{value_kind, hash_kind}
+use Rattle.scp_quorum.specs.scp_types.specs.declared.limits.TheConstants.{VALUE_LIMIT}
+use Rattle.scp_quorum.specs.scp_types.specs.declared.fault.Fault.{Fault}
+use Rattle.scp_quorum.specs.scp_types.specs.declared.fault.Fault.TheVariants.{TooLong}
+use Rattle.scp_quorum.specs.scp_xdr.specs.Kind.{Kind, uint64, numbered, both, union, no_arm, arm, Values, Spells, Fits, spelling}
+use Rattle.scp_quorum.specs.scp_xdr.specs.Reading.{reading_whole}
+use Rattle.scp_quorum.specs.scp_xdr.specs.Shared.{value_kind, hash_kind}
 use Rattle.scp_quorum.specs.QuorumKind.{set_kind, set_value, set_spelling, quorum_set_of}
 use Rattle.scp_envelope.specs.Kinds.{envelope_kind, envelope_value}
 use Rattle.scp_envelope.specs.Envelopes.{envelope_of}

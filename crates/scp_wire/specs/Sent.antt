@@ -1,7 +1,7 @@
 -- What was sent on a connection, by the items that its link took; what of it is carried; and what is to be read of it.
 use Rattle.std.specs.Prelude.{ℕ, ◌+◌, ◌-◌, Bool, true, false, ◌||◌, not, List, [], ◌∷◌, ◌++◌, Option, Some, None, nat_eq, nat_lt, if◌then◌else◌, length, filter, flat_map, take, is_some, option_to_list, map}
-use Rattle.scp_types.specs.declared.limits.TheConstants.{CARRIED_LIMIT}
-use Rattle.scp_types.specs.declared.names.ConnId.{ConnId}
+use Rattle.scp_quorum.specs.scp_types.specs.declared.limits.TheConstants.{CARRIED_LIMIT}
+use Rattle.scp_quorum.specs.scp_types.specs.declared.names.ConnId.{ConnId}
 use Rattle.scp_wire.specs.declared.message.Message.{Message}
 use Rattle.scp_wire.specs.declared.link.LinkItem.{LinkItem}
 use Rattle.scp_wire.specs.declared.link.LinkItem.TheVariants.{Opened, Bytes, Closed}

@@ -1,7 +1,7 @@
 -- What a link's sending end sends next.
 use Rattle.std.specs.Prelude.{◌≡◌, ◌≤◌}
-use Rattle.scp_types.specs.declared.limits.TheConstants.{LIFE_LIMIT}
-use Rattle.scp_types.specs.declared.names.NodeId.{NodeId}
+use Rattle.scp_quorum.specs.scp_types.specs.declared.limits.TheConstants.{LIFE_LIMIT}
+use Rattle.scp_quorum.specs.scp_types.specs.declared.names.NodeId.{NodeId}
 use Rattle.scp_wire.specs.declared.tail.Next.{Next}
 use Rattle.scp_wire.specs.Shape.{Tail, goes, MayGo}
 

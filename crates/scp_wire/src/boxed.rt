@@ -2,7 +2,7 @@
 ghost use Rattle.std.specs.Prelude.{◌≡◌, IfOk, IsOkUnless};
 
 use scp_envelope::{Envelope, SharedEnvelope};
-use scp_types::Fault;
+use scp_quorum::below::types::Fault;
 use std::alloc::Global;
 use std::marker::Model;
 use std::ops::Deref;

@@ -2,7 +2,7 @@
 ghost use Rattle.scp_wire.specs.inside.Carried.{IsCarried, IsCarried-prop};
 
 use crate::fitting::FittingMessage;
-use scp_types::{ConnId, Seq};
+use scp_quorum::below::types::{ConnId, Seq};
 
 /// A message that is numbered on its connection: an envelope, a request for a record, or a record.
 #[derive(Drop)]

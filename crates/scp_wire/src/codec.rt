@@ -2,9 +2,9 @@
 //!
 //! A `let _number = ..` that nothing uses shows the prover the range of that number.
 ghost use Rattle.std.specs.Prelude.{◌≡◌, ◌≢◌, ◌<◌, ◌^◌, length, IfOk, IfErr, IsErrOf, ◌↔◌, ◌⊎◌, Ok, Err, Some, None};
-ghost use Rattle.scp_xdr.specs.Kind.{Values};
-ghost use Rattle.scp_xdr.specs.Reading.{start, read_uint32};
-ghost use Rattle.scp_xdr.specs.Words.{Gives, IsReadingFault};
+ghost use Rattle.scp_quorum.specs.scp_xdr.specs.Kind.{Values};
+ghost use Rattle.scp_quorum.specs.scp_xdr.specs.Reading.{start, read_uint32};
+ghost use Rattle.scp_quorum.specs.scp_xdr.specs.Words.{Gives, IsReadingFault};
 ghost use Rattle.scp_wire.specs.Carried.{is_side};
 ghost use Rattle.scp_wire.specs.Fitting.{IsFitting};
 ghost use Rattle.scp_wire.specs.Message.{message_kind, message_value, message_reading, SpellsMessage, FitsMessage, HasRanges, BreaksALimit};
@@ -15,8 +15,8 @@ use crate::boxed::BoxedEnvelope;
 use crate::message::{MESSAGE_LIMIT, Message};
 use scp_envelope::{Envelope, ValueList};
 use scp_quorum::QuorumSet;
-use scp_types::{Fault, Hash, Slot, Value};
-use scp_xdr::{
+use scp_quorum::below::types::{Fault, Hash, Slot, Value};
+use scp_quorum::below::xdr::{
     Reader, Writer, Xdr, check, numbered_fits, pass_numbered, read_numbered, spend_array,
     spend_u32, spend_u64, write_numbered,
 };
@@ -193,7 +193,7 @@ pub fn decode(alloc: Global, bytes: &[u8]) -> Result<Message, Fault>
     if bytes.len() > MESSAGE_LIMIT {
         return Err(Fault::TooLong);
     }
-    scp_xdr::decode(alloc, bytes)
+    scp_quorum::below::xdr::decode(alloc, bytes)
 }
 
 /// The one encoding of the message (RFC 4506). `TooLong` exactly where it breaks a limit. These are 4,096 bytes a value, an
@@ -209,7 +209,7 @@ pub fn encode(alloc: Global, message: &Message) -> Result<Vec<u8>, Fault>
     ensures only { IfErr result (λ f. (f ≡ Fault.NoMemory) ⊎ (f ≡ Fault.TooLong)) }
 {
     see_ranges(message);
-    scp_xdr::encode_within(alloc, MESSAGE_LIMIT, message)
+    scp_quorum::below::xdr::encode_within(alloc, MESSAGE_LIMIT, message)
 }
 
 /// The message's numbers are in the range of their types. Does nothing.

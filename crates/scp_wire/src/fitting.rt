@@ -1,15 +1,15 @@
 //! Messages that fit a link.
 ghost use Rattle.std.specs.Prelude.{◌≡◌, ◌↔◌, ◌≤◌, length, IfOk, IfErr, IsOk, IsTrue};
-ghost use Rattle.scp_xdr.specs.Kind.{Fits, numbered, spelling};
-ghost use Rattle.scp_xdr.specs.Length.{spelled_len};
-ghost use Rattle.scp_xdr.specs.Shared.{value_kind};
-ghost use Rattle.scp_xdr.specs.Words.{Leaves};
+ghost use Rattle.scp_quorum.specs.scp_xdr.specs.Kind.{Fits, numbered, spelling};
+ghost use Rattle.scp_quorum.specs.scp_xdr.specs.Length.{spelled_len};
+ghost use Rattle.scp_quorum.specs.scp_xdr.specs.Shared.{value_kind};
+ghost use Rattle.scp_quorum.specs.scp_xdr.specs.Words.{Leaves};
 ghost use Rattle.scp_wire.specs.Fitting.{IsFitting};
 
 use crate::codec::BATCH_LIMIT;
 use crate::message::Message;
-use scp_types::{VALUE_LIMIT, Value};
-use scp_xdr::{Xdr, numbered_fits, spend_array, spend_u64};
+use scp_quorum::below::types::{VALUE_LIMIT, Value};
+use scp_quorum::below::xdr::{Xdr, numbered_fits, spend_array, spend_u64};
 use std::marker::Model;
 
 /// The most bytes of an envelope, a quorum set or a batch in a link message: 65,536 without the 4 of its kind (this project's
@@ -24,7 +24,7 @@ pub struct FittingMessage {
 
 impl Model for FittingMessage {
     ghost use Rattle.std.specs.Coded.{codes};
-    ghost use Rattle.scp_xdr.specs.inside.TreeModel.{coded_row};
+    ghost use Rattle.scp_quorum.specs.scp_xdr.specs.inside.TreeModel.{coded_row};
     ghost use Rattle.scp_quorum.specs.inside.QuorumTree.{coded_level};
     ghost use Rattle.scp_wire.specs.declared.message.Message.{Message};
     ghost use Rattle.scp_wire.specs.Fitting.{IsFitting};

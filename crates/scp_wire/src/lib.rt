@@ -15,6 +15,7 @@
 //!   only on the one that is open.
 #![tactic(auto)]
 
+pub mod below;
 mod boxed;
 mod carried;
 mod codec;

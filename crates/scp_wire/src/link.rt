@@ -2,7 +2,7 @@
 
 use crate::carried::Carried;
 use crate::side::SideMessage;
-use scp_types::{ConnId, Fault, Slot, Value};
+use scp_quorum::below::types::{ConnId, Fault, Slot, Value};
 use std::marker::Model;
 
 /// Bytes as they came over a link; nothing is known about them.

@@ -5,7 +5,7 @@ ghost use Rattle.scp_wire.specs.Carried.{is_carried};
 use crate::boxed::BoxedEnvelope;
 use scp_envelope::ValueList;
 use scp_quorum::QuorumSet;
-use scp_types::{Fault, Hash, Slot, Value};
+use scp_quorum::below::types::{Fault, Hash, Slot, Value};
 
 /// The most bytes that a link message may have (this project's profile).
 pub const MESSAGE_LIMIT: usize = 65_536;

@@ -1,6 +1,6 @@
 //! The place of a node among the peers of another.
 ghost use Rattle.std.specs.Prelude.{◌≡◌, ◌<◌};
-ghost use Rattle.scp_types.specs.declared.limits.TheConstants.{NODE_LIMIT};
+ghost use Rattle.scp_quorum.specs.scp_types.specs.declared.limits.TheConstants.{NODE_LIMIT};
 ghost use Rattle.scp_wire.specs.Places.{link_of, peer_at};
 
 /// The number of a node's link from another, by the nodes' numbers from 1 on: the other's place among the node's peers.

@@ -14,7 +14,7 @@ use crate::link::{Cause, Inbound, LinkItem};
 use crate::message::Message;
 use crate::side::SideMessage;
 use scp_envelope::ValueList;
-use scp_types::{CARRIED_LIMIT, ConnId, Fault, Seq, Slot};
+use scp_quorum::below::types::{CARRIED_LIMIT, ConnId, Fault, Seq, Slot};
 use std::alloc::Global;
 use std::collections::VecDeque;
 use std::marker::Model;
@@ -50,7 +50,7 @@ pub struct LinkReader {
 
 impl Model for LinkReader {
     ghost use Rattle.std.specs.Coded.{codes};
-    ghost use Rattle.scp_xdr.specs.inside.TreeModel.{coded_row};
+    ghost use Rattle.scp_quorum.specs.scp_xdr.specs.inside.TreeModel.{coded_row};
     ghost use Rattle.scp_quorum.specs.inside.QuorumTree.{coded_level};
     ghost use Rattle.scp_wire.specs.LinkReading.{ReaderState};
 

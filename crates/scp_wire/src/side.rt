@@ -1,7 +1,7 @@
 //! Messages that have no number on their connection.
 
 use scp_quorum::QuorumSet;
-use scp_types::Hash;
+use scp_quorum::below::types::Hash;
 
 /// A message that asks for a quorum set, or answers that. These are the kinds of link messages that have no number.
 #[derive(Drop)]

@@ -6,7 +6,7 @@ ghost use Rattle.scp_wire.specs.Shape.{never_open};
 ghost use Rattle.scp_wire.specs.Tails.{GoesNext};
 
 use crate::link::{Bytes, LinkItem};
-use scp_types::{ConnId, Fault, LIFE_LIMIT, NodeId};
+use scp_quorum::below::types::{ConnId, Fault, LIFE_LIMIT, NodeId};
 use std::marker::Model;
 
 /// The sending end of a link: how often the link was opened, and whether it is open. Whoever sends what a call gives

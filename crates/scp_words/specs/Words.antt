@@ -6,10 +6,10 @@ use Rattle.scp_ledger.specs.declared.journal.Verdict.{Verdict}
 use Rattle.scp_ledger.specs.declared.journal.Verdict.TheVariants.{OldSlot, FarSlot, Already, Unasked, Own, BadStatement, BadValue, Stale, Idle, Fresh, Forwarded, Decided}
 use Rattle.scp_ledger.specs.declared.took.CommandFate.{CommandFate}
 use Rattle.scp_ledger.specs.declared.took.CommandFate.TheVariants as fate
-use Rattle.scp_wire.specs.declared.link.Cause.{Cause}
-use Rattle.scp_wire.specs.declared.link.Cause.TheVariants.{Malformed, Link, Spent, ParkedFull}
-use Rattle.scp_pending.specs.declared.ready.DropCause.{DropCause}
-use Rattle.scp_pending.specs.declared.ready.DropCause.TheVariants as drop
+use Rattle.scp_ledger.specs.scp_wire.specs.declared.link.Cause.{Cause}
+use Rattle.scp_ledger.specs.scp_wire.specs.declared.link.Cause.TheVariants.{Malformed, Link, Spent, ParkedFull}
+use Rattle.scp_ledger.specs.scp_pending.specs.declared.ready.DropCause.{DropCause}
+use Rattle.scp_ledger.specs.scp_pending.specs.declared.ready.DropCause.TheVariants as drop
 
 -- the word of a verdict
 abbrev pub verdict_word : Verdict → List ℕ

@@ -6,6 +6,7 @@
 //! - Bytes are written as two lower-case digits each, and no bytes as a dash.
 #![tactic(auto)]
 
+pub mod below;
 mod digits;
 mod numbers;
 mod words;

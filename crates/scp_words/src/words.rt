@@ -2,9 +2,9 @@
 ghost use Rattle.std.specs.Prelude.{◌≡◌};
 ghost use Rattle.scp_words.specs.Words.{verdict_word, cause_word, drop_word, fate_word};
 
+use scp_ledger::below::pending::DropCause;
+use scp_ledger::below::wire::Cause;
 use scp_ledger::{CommandFate, Verdict};
-use scp_pending::DropCause;
-use scp_wire::Cause;
 
 /// The word of a verdict, as in a report.
 pub fn word_of_verdict(verdict: Verdict) -> &'static str

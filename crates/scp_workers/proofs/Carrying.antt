@@ -1,9 +1,9 @@
 -- What was carried, with one thing more.
 use Rattle.std.proofs.Common.{◌≡◌, false, List, [], ◌∷◌, ◌++◌, refl, sym, subst}
-use Rattle.scp_wire.specs.declared.link.LinkItem.{LinkItem}
-use Rattle.scp_outbox.specs.declared.mark.Mark.TheVariants.{Opened, Closed, Stop}
-use Rattle.scp_outbox.specs.declared.mark.Out.{Out}
-use Rattle.scp_outbox.specs.declared.mark.Out.TheVariants as out
+use Rattle.scp_theorem.specs.scp_wire.specs.declared.link.LinkItem.{LinkItem}
+use Rattle.scp_theorem.specs.scp_outbox.specs.declared.mark.Mark.TheVariants.{Opened, Closed, Stop}
+use Rattle.scp_theorem.specs.scp_outbox.specs.declared.mark.Out.{Out}
+use Rattle.scp_theorem.specs.scp_outbox.specs.declared.mark.Out.TheVariants as out
 use Rattle.scp_ends.specs.Links.{LinkEnd}
 use Rattle.scp_shared_outbox.specs.Ends.{TakerView}
 use Rattle.scp_workers.specs.Carrying.{IsSpelt, AreSpelt, Carries, Carried, HaveNoStop, IsSameLink, is_stop, unsent}

@@ -6,10 +6,10 @@ use Rattle.std.proofs.lemmas.List.{length-set, take_all, drop_all}
 use Rattle.std.proofs.lemmas.Option.{slice_get_within, slice_get-get_or}
 use Rattle.std.proofs.lemmas.Grind.{flat_map-append}
 use native.Mathlib.Decide.{ℕ_discrete, dec_lt}
-use Rattle.scp_wire.specs.declared.message.Message.{Message}
+use Rattle.scp_theorem.specs.scp_wire.specs.declared.message.Message.{Message}
 use Rattle.scp_shared_outbox.specs.Ends.{PutterView}
-use Rattle.scp_ledger.specs.declared.took.Outgoing.{Outgoing}
-use Rattle.scp_ledger.specs.declared.took.Outgoing.TheVariants.{To}
+use Rattle.scp_theorem.specs.scp_ledger.specs.declared.took.Outgoing.{Outgoing}
+use Rattle.scp_theorem.specs.scp_ledger.specs.declared.took.Outgoing.TheVariants.{To}
 use Rattle.scp_theorem.specs.Handed.{handed_by, messages_for}
 use Rattle.scp_workers.specs.Working.{AreSameOutlets, AreUnused, HavePut}
 use Rattle.scp_workers.specs.inside.Handing.{PutsOut, PutsAt}

@@ -6,7 +6,7 @@ use Rattle.scp_ends.specs.declared.item.Item.TheVariants.{One, Stop}
 use Rattle.scp_ends.specs.Order.{values}
 use Rattle.scp_ends.specs.Ends.{Sender, Receiver}
 use Rattle.scp_shared_outbox.specs.Ends.{PutterView}
-use Rattle.scp_ledger.specs.declared.took.Outgoing.{Outgoing}
+use Rattle.scp_theorem.specs.scp_ledger.specs.declared.took.Outgoing.{Outgoing}
 use Rattle.scp_workers.specs.Working.{sent_by, FitsAlone, AreSameOutlets, AreUnused}
 use Rattle.scp_workers.specs.inside.Handing.{PutsOut}
 use Rattle.scp_workers.specs.inside.Working.{HasGiven, GivesOn, TakesOn, MayTake}

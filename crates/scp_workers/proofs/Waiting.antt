@@ -1,16 +1,16 @@
 -- What the pending stage took and replied, with one item more.
 use Rattle.std.proofs.Common.{◌≡◌, List, [], ◌∷◌, ◌++◌, sym, ◌∙◌, ap, append-nil, append_assoc}
 use Rattle.std.specs.Prelude.{ℕ, Option}
-use Rattle.scp_types.specs.declared.names.NodeId.{NodeId}
-use Rattle.scp_quorum.specs.QuorumTree.{QuorumTree}
-use Rattle.scp_wire.specs.declared.link.Inbound.{Inbound}
-use Rattle.scp_wire.specs.declared.message.Message.{Message}
-use Rattle.scp_pending.specs.declared.ready.Ready.{Ready}
-use Rattle.scp_pending.specs.Linked.{WhoItIsStays}
-use Rattle.scp_pending.specs.Passes.{Passes}
-use Rattle.scp_pending.specs.Pends.{Pends}
-use Rattle.scp_pending.specs.Rules.{PendingView, Settled, fresh, rules, reply, settled_by, taken_in}
-use Rattle.scp_ledger.specs.declared.took.Outgoing.{Outgoing}
+use Rattle.scp_theorem.specs.scp_types.specs.declared.names.NodeId.{NodeId}
+use Rattle.scp_theorem.specs.scp_quorum.specs.QuorumTree.{QuorumTree}
+use Rattle.scp_theorem.specs.scp_wire.specs.declared.link.Inbound.{Inbound}
+use Rattle.scp_theorem.specs.scp_wire.specs.declared.message.Message.{Message}
+use Rattle.scp_theorem.specs.scp_pending.specs.declared.ready.Ready.{Ready}
+use Rattle.scp_theorem.specs.scp_pending.specs.Linked.{WhoItIsStays}
+use Rattle.scp_theorem.specs.scp_pending.specs.Passes.{Passes}
+use Rattle.scp_theorem.specs.scp_pending.specs.Pends.{Pends}
+use Rattle.scp_theorem.specs.scp_pending.specs.Rules.{PendingView, Settled, fresh, rules, reply, settled_by, taken_in}
+use Rattle.scp_theorem.specs.scp_ledger.specs.declared.took.Outgoing.{Outgoing}
 use Rattle.scp_theorem.specs.Handed.{out_of, replies_from}
 use Rattle.scp_workers.specs.Pending.{PendsFrom}
 

@@ -1,8 +1,8 @@
 -- What a stage hands out for its node's links.
 use Rattle.std.specs.Prelude.{List, [], ◌∷◌}
-use Rattle.scp_wire.specs.Fitting.{IsFitting}
-use Rattle.scp_ledger.specs.declared.took.Outgoing.{Outgoing}
-use Rattle.scp_ledger.specs.declared.took.Outgoing.TheVariants.{To}
+use Rattle.scp_theorem.specs.scp_wire.specs.Fitting.{IsFitting}
+use Rattle.scp_theorem.specs.scp_ledger.specs.declared.took.Outgoing.{Outgoing}
+use Rattle.scp_theorem.specs.scp_ledger.specs.declared.took.Outgoing.TheVariants.{To}
 use Rattle.scp_workers.specs.declared.stage.Outs.{Outs}
 use Rattle.scp_workers.specs.declared.stage.Outs.TheVariants.{Nothing, Answer, All}
 

@@ -1,12 +1,12 @@
 -- The pending stage, where messages wait for their quorum sets.
 use Rattle.std.specs.Prelude.{◌≡◌, List, []}
-use Rattle.scp_types.specs.declared.names.NodeId.{NodeId}
-use Rattle.scp_quorum.specs.QuorumTree.{QuorumTree}
-use Rattle.scp_wire.specs.declared.link.Inbound.{Inbound}
-use Rattle.scp_pending.specs.declared.ready.Ready.{Ready}
-use Rattle.scp_pending.specs.Rules.{PendingView, fresh}
-use Rattle.scp_pending.specs.Pends.{Pends}
-use Rattle.scp_ledger.specs.declared.took.Outgoing.{Outgoing}
+use Rattle.scp_theorem.specs.scp_types.specs.declared.names.NodeId.{NodeId}
+use Rattle.scp_theorem.specs.scp_quorum.specs.QuorumTree.{QuorumTree}
+use Rattle.scp_theorem.specs.scp_wire.specs.declared.link.Inbound.{Inbound}
+use Rattle.scp_theorem.specs.scp_pending.specs.declared.ready.Ready.{Ready}
+use Rattle.scp_theorem.specs.scp_pending.specs.Rules.{PendingView, fresh}
+use Rattle.scp_theorem.specs.scp_pending.specs.Pends.{Pends}
+use Rattle.scp_theorem.specs.scp_ledger.specs.declared.took.Outgoing.{Outgoing}
 use Rattle.scp_theorem.specs.Handed.{replies_from}
 use Rattle.scp_workers.specs.Working.{Work, End, HasRun}
 

@@ -1,9 +1,9 @@
 -- The stage that reads a link.
 use Rattle.std.specs.Prelude.{◌≡◌, List, [], IfSome, is_some}
-use Rattle.scp_wire.specs.declared.link.LinkItem.{LinkItem}
-use Rattle.scp_wire.specs.declared.link.Inbound.{Inbound}
-use Rattle.scp_wire.specs.LinkReading.{HasRead}
-use Rattle.scp_ledger.specs.declared.took.Outgoing.{Outgoing}
+use Rattle.scp_theorem.specs.scp_wire.specs.declared.link.LinkItem.{LinkItem}
+use Rattle.scp_theorem.specs.scp_wire.specs.declared.link.Inbound.{Inbound}
+use Rattle.scp_theorem.specs.scp_wire.specs.LinkReading.{HasRead}
+use Rattle.scp_theorem.specs.scp_ledger.specs.declared.took.Outgoing.{Outgoing}
 use Rattle.scp_workers.specs.declared.reading.ReadingStage.{ReadingStage}
 use Rattle.scp_workers.specs.Working.{Work, End, HasRun}
 

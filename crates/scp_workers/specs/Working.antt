@@ -1,7 +1,7 @@
 -- What contracts see of a worker that works, and of what it ends with.
 use Rattle.std.specs.Prelude.{◌≡◌, ◌⊎◌, ℕ, Bool, true, false, List, [], length, slice_get, Option, Some, None}
 use Rattle.scp_shared_outbox.specs.Ends.{PutterView}
-use Rattle.scp_ledger.specs.declared.took.Outgoing.{Outgoing}
+use Rattle.scp_theorem.specs.scp_ledger.specs.declared.took.Outgoing.{Outgoing}
 use Rattle.scp_theorem.specs.Handed.{handed_by}
 use Rattle.scp_ends.specs.Order.{values}
 use Rattle.scp_ends.specs.Ends.{Sender, Receiver, HeardAll}

@@ -5,12 +5,12 @@ ghost use Rattle.scp_workers.specs.Working.{AreUnused};
 use crate::handing::answered;
 use crate::stage::{Given, Stage};
 use crate::worker::{Ended, Worker};
-use scp_apply::{Applier, what_holds_of_an_applier_holds_with_one_thing_more};
-use scp_driver::{Application, KvDriver};
 use scp_ends::{Any, DecidedRx, InWindow, Stage as Place};
-use scp_ledger::Onward;
 use scp_shared_outbox::Putter;
-use scp_types::NodeId;
+use scp_theorem::below::apply::{Applier, what_holds_of_an_applier_holds_with_one_thing_more};
+use scp_theorem::below::driver::{Application, KvDriver};
+use scp_theorem::below::ledger::Onward;
+use scp_theorem::below::types::NodeId;
 use std::alloc::Global;
 
 /// What the last stage gives on: there is no such thing.

@@ -1,20 +1,19 @@
 //! The worker that carries what waits in an outbox to a link.
 ghost use Rattle.std.specs.Prelude.{◌≡◌, ◌↔◌, [], ◌∷◌, ◌++◌, true, false, IsTrue, IsSome, IfSome, MatchBool};
-ghost use Rattle.scp_outbox.specs.declared.mark.Mark.TheVariants as mark;
-ghost use Rattle.scp_outbox.specs.declared.mark.Out.TheVariants as out;
+ghost use Rattle.scp_theorem.specs.scp_outbox.specs.declared.mark.Mark.TheVariants as mark;
+ghost use Rattle.scp_theorem.specs.scp_outbox.specs.declared.mark.Out.TheVariants as out;
 ghost use Rattle.scp_workers.specs.Carrying.{Carries, EndAtStop, HasCarried, HaveNoStop, Holds, IsCarried, IsSameLink, IsSameTaker, is_stop};
 
 use scp_ends::{Counter, Gate, LinkDone, LinkTx, Stage};
-use scp_outbox::{Mark, Out};
 use scp_shared_outbox::Taker;
-use scp_types::NodeId;
-use scp_wire::{Bytes, Message, encode};
+use scp_theorem::below::outbox::{Mark, Out};
+use scp_theorem::below::types::NodeId;
+use scp_theorem::below::wire::{Bytes, Message, encode};
 use std::alloc::Global;
 use std::marker::Model;
 use std::sync::Wait;
 
 /// Carries what waits in an outbox to a link. Contracts see the link's end, the end of the outbox, and whether it failed.
-#[derive(Drop)]
 pub struct Courier {
     alloc: Global,
     taker: Taker,
@@ -23,12 +22,24 @@ pub struct Courier {
     failed: bool,
 }
 
+impl Drop for Courier {
+    fn drop(self) {
+        let Courier {
+            alloc: _,
+            taker: _,
+            link: _,
+            counter: _,
+            failed: _,
+        } = self;
+    }
+}
+
 impl Model for Courier {
     ghost use Rattle.std.specs.Prelude.{◌≡◌, false};
     ghost use Rattle.scp_workers.specs.Carrying.{CourierWorking, AreSpelt, Carried, unsent};
     ghost use Rattle.std.specs.Coded.{codes};
-    ghost use Rattle.scp_xdr.specs.inside.TreeModel.{coded_row};
-    ghost use Rattle.scp_quorum.specs.inside.QuorumTree.{coded_level};
+    ghost use Rattle.scp_theorem.specs.scp_xdr.specs.inside.TreeModel.{coded_row};
+    ghost use Rattle.scp_theorem.specs.scp_quorum.specs.inside.QuorumTree.{coded_level};
 
     ghost Value = { CourierWorking };
 
@@ -40,7 +51,6 @@ impl Model for Courier {
 }
 
 /// What a courier ends with: the end of the outbox, how its link is left, and, if it ended well, what the link's end leaves.
-#[derive(Drop)]
 pub struct CourierEnded {
     done: Option<LinkDone>,
     taker: Taker,
@@ -48,12 +58,23 @@ pub struct CourierEnded {
     is_open: bool,
 }
 
+impl Drop for CourierEnded {
+    fn drop(self) {
+        let CourierEnded {
+            done: _,
+            taker: _,
+            lives: _,
+            is_open: _,
+        } = self;
+    }
+}
+
 impl Model for CourierEnded {
     ghost use Rattle.std.specs.Prelude.{IfSome};
     ghost use Rattle.scp_workers.specs.Carrying.{CourierEnd, HasCarried, IsCarried};
     ghost use Rattle.std.specs.Coded.{codes};
-    ghost use Rattle.scp_xdr.specs.inside.TreeModel.{coded_row};
-    ghost use Rattle.scp_quorum.specs.inside.QuorumTree.{coded_level};
+    ghost use Rattle.scp_theorem.specs.scp_xdr.specs.inside.TreeModel.{coded_row};
+    ghost use Rattle.scp_theorem.specs.scp_quorum.specs.inside.QuorumTree.{coded_level};
 
     ghost Value = { CourierEnd };
 
@@ -96,7 +117,12 @@ impl CourierEnded {
         // It was given all up to Stop, and sent that.
         ensures given { IfSome result.0 (HasCarried self.taker.gave) }
     {
-        let CourierEnded { done, taker, .. } = self;
+        let CourierEnded {
+            done,
+            taker,
+            lives: _,
+            is_open: _,
+        } = self;
         (done, taker)
     }
 }
@@ -176,10 +202,11 @@ impl Courier {
     {
         self.counter.putting(gate);
         let Courier {
-            link,
+            alloc: _,
             taker,
+            link,
+            counter: _,
             failed,
-            ..
         } = self;
         let lives = link.lives();
         let is_open = link.is_open();

@@ -1,18 +1,18 @@
 //! What stages hand out for links, put into the links' outboxes.
 ghost use Rattle.std.specs.Prelude.{◌≡◌, [], ◌∷◌, IfSome, OnOk};
-ghost use Rattle.scp_wire.specs.Fitting.{IsFitting};
-ghost use Rattle.scp_ledger.specs.Fitting.{FitsOut};
+ghost use Rattle.scp_theorem.specs.scp_wire.specs.Fitting.{IsFitting};
+ghost use Rattle.scp_theorem.specs.scp_ledger.specs.Fitting.{FitsOut};
 ghost use Rattle.scp_theorem.specs.Handed.{out_of};
 ghost use Rattle.scp_workers.specs.Handing.{FitsOuts, outgoing_of};
 ghost use Rattle.scp_workers.specs.Working.{AreSameOutlets};
 ghost use Rattle.scp_workers.specs.inside.Handing.{PutsOut, PutsAt};
 
 use crate::stage::Outs;
-use scp_envelope::SharedEnvelope;
-use scp_ledger::{Outgoing, OutgoingList};
 use scp_shared_outbox::Putter;
-use scp_types::Fault;
-use scp_wire::{BoxedEnvelope, FittingMessage, Message};
+use scp_theorem::below::envelope::SharedEnvelope;
+use scp_theorem::below::ledger::{Outgoing, OutgoingList};
+use scp_theorem::below::types::Fault;
+use scp_theorem::below::wire::{BoxedEnvelope, FittingMessage, Message};
 use std::sync::Wait;
 
 /// An answer for a link, or none.

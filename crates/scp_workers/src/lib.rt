@@ -28,6 +28,7 @@
 #![tactic(auto)]
 
 mod apply;
+pub mod below;
 mod courier;
 mod ending;
 mod handing;

@@ -1,6 +1,6 @@
 //! The pending stage, where messages wait for their quorum sets.
 ghost use Rattle.std.specs.Prelude.{◌≡◌, ◌≤◌, [], false, Some, length};
-ghost use Rattle.scp_types.specs.declared.limits.TheConstants.{NODE_LIMIT, PEER_LIMIT};
+ghost use Rattle.scp_theorem.specs.scp_types.specs.declared.limits.TheConstants.{NODE_LIMIT, PEER_LIMIT};
 ghost use Rattle.scp_workers.specs.Pending.{IsFor};
 ghost use Rattle.scp_workers.specs.Working.{AreUnused};
 
@@ -8,11 +8,11 @@ use crate::handing::answered;
 use crate::stage::{Given, Stage};
 use crate::worker::{Ended, Worker};
 use scp_ends::{Any, InboxRx, ReadyTx, Stage as Place};
-use scp_pending::{Pending, Ready, who_it_is_stays};
-use scp_quorum::SaneSet;
 use scp_shared_outbox::Putter;
-use scp_types::NodeId;
-use scp_wire::Inbound;
+use scp_theorem::below::pending::{Pending, Ready, who_it_is_stays};
+use scp_theorem::below::quorum::SaneSet;
+use scp_theorem::below::types::NodeId;
+use scp_theorem::below::wire::Inbound;
 use std::alloc::Global;
 use std::sync::Arc;
 

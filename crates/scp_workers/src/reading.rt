@@ -1,12 +1,12 @@
 //! The stage that reads a link.
 ghost use Rattle.std.specs.Prelude.{◌≡◌, ◌∷◌, ◌++◌, [], false, List, Some, IfOk, IfSome, OnOk, is_some};
-ghost use Rattle.scp_wire.specs.declared.link.LinkItem.{LinkItem};
+ghost use Rattle.scp_theorem.specs.scp_wire.specs.declared.link.LinkItem.{LinkItem};
 
 use crate::stage::{Given, Outs, Stage};
 use crate::worker::{Ended, Worker};
 use scp_ends::{Any, InboxTx, LinkRx, Stage as Place};
-use scp_types::{Fault, NodeId};
-use scp_wire::{Inbound, LinkItem, LinkReader};
+use scp_theorem::below::types::{Fault, NodeId};
+use scp_theorem::below::wire::{Inbound, LinkItem, LinkReader};
 use std::alloc::Global;
 
 /// The reader of a link: it takes the link's items, and gives what each is read as.

@@ -5,16 +5,16 @@ ghost use Rattle.scp_workers.specs.Working.{AreUnused};
 
 use crate::stage::{Given, Outs, Stage};
 use crate::worker::{Ended, Worker};
-use scp_driver::{Driver, KvDriver};
 use scp_ends::{Any, DecidedTx, InWindow, ReadyRx, Stage as Place};
-use scp_ledger::{
+use scp_shared_outbox::Putter;
+use scp_theorem::below::driver::{Driver, KvDriver};
+use scp_theorem::below::ledger::{
     CommandFate, Ledger, Onward, Took, what_holds_of_a_ledger_holds_with_one_thing_more,
     what_is_given_on_keeps_the_window,
 };
-use scp_pending::Ready;
-use scp_quorum::SaneSet;
-use scp_shared_outbox::Putter;
-use scp_types::NodeId;
+use scp_theorem::below::pending::Ready;
+use scp_theorem::below::quorum::SaneSet;
+use scp_theorem::below::types::NodeId;
 use std::alloc::{AllocError, Global};
 use std::sync::Arc;
 

@@ -1,7 +1,7 @@
 //! What a stage of a node does, and what it hands out.
 use scp_ends::Law;
-use scp_ledger::OutgoingList;
-use scp_wire::Message;
+use scp_theorem::below::ledger::OutgoingList;
+use scp_theorem::below::wire::Message;
 
 /// What goes out to a node's peers, into the outboxes of its links.
 #[derive(Drop)]
@@ -28,7 +28,7 @@ pub struct Given<U> {
 /// A worker takes a thing only when nothing is left to give, and then lets the stage give until nothing is left.
 pub trait Stage<T: Drop, L: Law<T>, U: Drop, M: Law<U>>: Drop {
     ghost use Rattle.std.specs.Prelude.{[], ◌∷◌, ◌++◌, List, IfSome, MatchOption, option_to_list};
-    ghost use Rattle.scp_ledger.specs.declared.took.Outgoing.{Outgoing};
+    ghost use Rattle.scp_theorem.specs.scp_ledger.specs.declared.took.Outgoing.{Outgoing};
     ghost use Rattle.scp_workers.specs.Handing.{FitsOuts, outgoing_of};
 
     // A stage whose first state was this took these things, gave these, handed these out, and is in this state now.

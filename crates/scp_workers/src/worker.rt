@@ -10,14 +10,13 @@ use crate::stage::Stage;
 use crate::telling::{about_to_send, receive};
 use scp_ends::{Counter, Done, Gate, Gone, Item, Law, Nobody, Rx, Stage as Place, Tx, Unheard};
 use scp_shared_outbox::Putter;
-use scp_types::{NODE_LIMIT, NodeId};
+use scp_theorem::below::types::{NODE_LIMIT, NodeId};
 use std::marker::Model;
 use std::snapshot::Snapshot;
 use std::sync::Wait;
 
 /// Receives things, takes them into its stage, puts what goes to peers into the links' outboxes, and sends what the stage gives. Contracts
 /// see its ends, the stage that it was made of, whether it failed, and whether it was cut off.
-#[derive(Drop)]
 pub struct Worker<T: Drop, L: Law<T>, U: Drop, M: Law<U>, S: Stage<T, L, U, M>> {
     rx: Rx<T, L>,
     tx: Option<Tx<U, M>>,
@@ -31,12 +30,29 @@ pub struct Worker<T: Drop, L: Law<T>, U: Drop, M: Law<U>, S: Stage<T, L, U, M>> 
     gone: Option<Nobody>,
 }
 
+impl<T: Drop, L: Law<T>, U: Drop, M: Law<U>, S: Stage<T, L, U, M>> Drop for Worker<T, L, U, M, S> {
+    fn drop(self) {
+        let Worker {
+            rx: _,
+            tx: _,
+            stage: _,
+            first: _,
+            outlets: _,
+            producers: _,
+            stops: _,
+            counter: _,
+            failed: _,
+            gone: _,
+        } = self;
+    }
+}
+
 impl<T: Drop, L: Law<T>, U: Drop, M: Law<U>, S: Stage<T, L, U, M>> Model for Worker<T, L, U, M, S> {
     ghost use Rattle.std.specs.Prelude.{◌≡◌, ◌≤◌, true, false, is_some};
-    ghost use Rattle.scp_types.specs.declared.limits.TheConstants.{NODE_LIMIT};
+    ghost use Rattle.scp_theorem.specs.scp_types.specs.declared.limits.TheConstants.{NODE_LIMIT};
     ghost use Rattle.std.specs.Coded.{codes};
-    ghost use Rattle.scp_xdr.specs.inside.TreeModel.{coded_row};
-    ghost use Rattle.scp_quorum.specs.inside.QuorumTree.{coded_level};
+    ghost use Rattle.scp_theorem.specs.scp_xdr.specs.inside.TreeModel.{coded_row};
+    ghost use Rattle.scp_theorem.specs.scp_quorum.specs.inside.QuorumTree.{coded_level};
     ghost use Rattle.scp_ends.specs.Order.{values};
     ghost use Rattle.scp_workers.specs.Working.{Work, FitsAlone, sent_by};
     ghost use Rattle.scp_workers.specs.inside.Working.{AreStops, HasGiven};
@@ -52,7 +68,6 @@ impl<T: Drop, L: Law<T>, U: Drop, M: Law<U>, S: Stage<T, L, U, M>> Model for Wor
 
 /// What a worker ends with: its receiving end, what is left of its sending end, its ends of the outboxes, its stage, and how it ended. It
 /// ended well or not; nobody sent to it any more; or nobody received its end any more.
-#[derive(Drop)]
 pub struct Ended<T: Drop, L: Law<T>, U: Drop, M: Law<U>, S: Stage<T, L, U, M>> {
     rx: Rx<T, L>,
     done: Option<Done<U, M>>,
@@ -64,11 +79,26 @@ pub struct Ended<T: Drop, L: Law<T>, U: Drop, M: Law<U>, S: Stage<T, L, U, M>> {
     unheard: Option<Unheard<U, M>>,
 }
 
+impl<T: Drop, L: Law<T>, U: Drop, M: Law<U>, S: Stage<T, L, U, M>> Drop for Ended<T, L, U, M, S> {
+    fn drop(self) {
+        let Ended {
+            rx: _,
+            done: _,
+            outlets: _,
+            first: _,
+            stage: _,
+            well: _,
+            gone: _,
+            unheard: _,
+        } = self;
+    }
+}
+
 impl<T: Drop, L: Law<T>, U: Drop, M: Law<U>, S: Stage<T, L, U, M>> Model for Ended<T, L, U, M, S> {
     ghost use Rattle.std.specs.Prelude.{is_some};
     ghost use Rattle.std.specs.Coded.{codes};
-    ghost use Rattle.scp_xdr.specs.inside.TreeModel.{coded_row};
-    ghost use Rattle.scp_quorum.specs.inside.QuorumTree.{coded_level};
+    ghost use Rattle.scp_theorem.specs.scp_xdr.specs.inside.TreeModel.{coded_row};
+    ghost use Rattle.scp_theorem.specs.scp_quorum.specs.inside.QuorumTree.{coded_level};
     ghost use Rattle.scp_workers.specs.Working.{End, EndsWell};
     ghost use Rattle.scp_workers.specs.inside.Working.{HearsToTheEnd};
 
@@ -106,8 +136,11 @@ impl<T: Drop, L: Law<T>, U: Drop, M: Law<U>, S: Stage<T, L, U, M>> Ended<T, L, U
             rx,
             done,
             outlets,
+            first: _,
             stage,
-            ..
+            well: _,
+            gone: _,
+            unheard: _,
         } = self;
         (rx, done, outlets, stage)
     }
@@ -214,11 +247,14 @@ impl<T: Drop, L: Law<T>, U: Drop, M: Law<U>, S: Stage<T, L, U, M>> Worker<T, L, 
         let Worker {
             rx,
             tx,
-            outlets,
             stage,
             first,
+            outlets,
+            producers: _,
+            stops: _,
+            counter: _,
+            failed: _,
             gone,
-            ..
         } = self;
         let Left {
             done,

@@ -1,3 +1,4 @@
+pub use Rattle.scp_types
 pub mod Tree
 pub mod Kind
 pub mod Length

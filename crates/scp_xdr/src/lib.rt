@@ -14,6 +14,7 @@
 //! Not claimed: where a refusal leaves the reader of such a part, nor what a refused writer of a part has appended.
 #![tactic(auto)]
 
+pub mod below;
 mod padding;
 mod reader;
 mod room;

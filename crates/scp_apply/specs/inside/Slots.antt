@@ -1,7 +1,7 @@
 -- What an applier keeps; nothing here need be believed.
 use Rattle.std.specs.Prelude.{ℕ, ◌+◌, ◌<◌, ◌≤◌, ◌≡◌, ◌≢◌, Bool, false, List, [], ◌∷◌, ◌++◌, All, length, remove, slice_index_or}
 use Rattle.std.specs.List.Sorted.{IsPermutation}
-use Rattle.scp_types.specs.declared.limits.TheConstants.{WINDOW}
+use Rattle.scp_ledger.specs.scp_types.specs.declared.limits.TheConstants.{WINDOW}
 use Rattle.scp_ledger.specs.declared.journal.Decision.{Decision}
 use Rattle.scp_ledger.specs.Decisions.{OnePerSlot}
 use Rattle.scp_apply.specs.declared.slots.Slots.{Slots}
@@ -49,17 +49,17 @@ pub record Enters {S : Type 0} (after' : S → List ℕ → S) (old : Slots) (be
   pub grows : new.applied.items ≡ old.applied.items ++ more
   pub state_is : state ≡ made_of before after' more
 
--- the state is what the applied values make
+-- the state is what the applied values make of a first one
 abbrev pub IsMade : {S : Type 0} → S → (S → List ℕ → S) → Slots → S → Type 0
 IsMade first after' s state = state ≡ made_of first after' s.applied.items
 
 abbrev pub slots_view : Bool → Slots → ApplierView
-slots_view failed s = record { first = s.before + 1; failed = failed; applied = s.applied.items; buffer = s.buffer.items }
+slots_view failed s = record { first = s.before + 1; base = s.base.items; failed = failed; applied = s.applied.items; buffer = s.buffer.items }
 
 abbrev pub applier_view : {A S : Type 0} → applier.Inside A S → ApplierView
 applier_view a = slots_view a.failed a.slots
 
-pub record IsWell {A S : Type 0} (first : S) (after' : S → List ℕ → S) (a : applier.Inside A S) : Type 0 where
+pub record IsWell {A S : Type 0} (begins : List ℕ → S) (after' : S → List ℕ → S) (a : applier.Inside A S) : Type 0 where
   pub in_order : AreInOrder (a.slots.before + 1) a.slots.applied.items
   pub sound : a.failed ≡ false → IsSound a.slots
-  pub made : a.failed ≡ false → IsMade first after' a.slots a.state
+  pub made : a.failed ≡ false → IsMade (begins a.slots.base.items) after' a.slots a.state

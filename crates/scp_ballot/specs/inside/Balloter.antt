@@ -1,7 +1,7 @@
 -- What a balloter keeps; nothing here need be believed.
 use Rattle.std.specs.Prelude.{◌≡◌, Bool, false}
 use Rattle.std.specs.Option.{option_map}
-use Rattle.scp_envelope.specs.declared.statement.Statement.{Statement}
+use Rattle.scp_ballot_rules.specs.scp_envelope.specs.declared.statement.Statement.{Statement}
 use Rattle.scp_ballot.specs.View.{BalloterView}
 use Rattle.scp_ballot.specs.Balloting.{Ballots, ballots}
 use Rattle.scp_ballot.specs.inside.Machine.{IsAtRest}

@@ -1,7 +1,7 @@
 -- What the rules come to, exactly.
 -- No public clause reaches this: nothing here need be believed.
 use Rattle.std.specs.Prelude.{◌≡◌, ◌+◌, ℕ, Bool, Option, Some, None}
-use Rattle.scp_vote.specs.Board.{Seen}
+use Rattle.scp_ballot_rules.specs.scp_vote.specs.Board.{Seen}
 use Rattle.scp_ballot_rules.specs.declared.state.State.{State}
 use Rattle.scp_ballot_rules.specs.Steps.{renewed, Settles}
 use Rattle.scp_ballot.specs.declared.machine.Machine.{Machine}

@@ -2,14 +2,14 @@
 -- No public clause reaches this: nothing here need be believed.
 use Rattle.std.specs.Prelude.{◌≡◌, ◌≢◌, ◌↔◌, [], Option, Some, IsSome, IsSomeAnd, IfSome, IfNone, false}
 use Rattle.std.specs.Option.{ForSome}
-use Rattle.scp_types.specs.declared.ballot.Ballot.{Ballot}
-use Rattle.scp_quorum.specs.NodeSet.{is_in}
-use Rattle.scp_envelope.specs.Sane.{IsSane}
-use Rattle.scp_envelope.specs.Newer.{IsNewer}
-use Rattle.scp_envelope.specs.declared.statement.Statement.{Statement}
-use Rattle.scp_envelope.specs.declared.statement.Envelope.{Envelope}
-use Rattle.scp_vote.specs.Board.{Certificate}
-use Rattle.scp_vote.specs.declared.claim.Claim.TheVariants.{Committed}
+use Rattle.scp_ballot_rules.specs.scp_types.specs.declared.ballot.Ballot.{Ballot}
+use Rattle.scp_ballot_rules.specs.scp_quorum.specs.NodeSet.{is_in}
+use Rattle.scp_ballot_rules.specs.scp_envelope.specs.Sane.{IsSane}
+use Rattle.scp_ballot_rules.specs.scp_envelope.specs.Newer.{IsNewer}
+use Rattle.scp_ballot_rules.specs.scp_envelope.specs.declared.statement.Statement.{Statement}
+use Rattle.scp_ballot_rules.specs.scp_envelope.specs.declared.statement.Envelope.{Envelope}
+use Rattle.scp_ballot_rules.specs.scp_vote.specs.Board.{Certificate}
+use Rattle.scp_ballot_rules.specs.scp_vote.specs.declared.claim.Claim.TheVariants.{Committed}
 use Rattle.scp_ballot_rules.specs.declared.state.State.{State}
 use Rattle.scp_ballot_rules.specs.declared.state.Phase.{Phase}
 use Rattle.scp_ballot_rules.specs.declared.state.Phase.TheVariants.{Externalize}

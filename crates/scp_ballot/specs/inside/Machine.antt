@@ -2,15 +2,15 @@
 -- No public clause reaches this: nothing here need be believed.
 use Rattle.std.specs.Prelude.{◌≡◌, Option, None}
 use Rattle.std.specs.Option.{ForSome}
-use Rattle.scp_types.specs.declared.names.NodeId.{NodeId}
-use Rattle.scp_quorum.specs.QuorumTree.{QuorumTree}
-use Rattle.scp_quorum.specs.QuorumKind.{set_spelling}
+use Rattle.scp_ballot_rules.specs.scp_types.specs.declared.names.NodeId.{NodeId}
+use Rattle.scp_ballot_rules.specs.scp_quorum.specs.QuorumTree.{QuorumTree}
+use Rattle.scp_ballot_rules.specs.scp_quorum.specs.QuorumKind.{set_spelling}
 use Rattle.sha2.specs.Sha256.{sha256}
-use Rattle.scp_envelope.specs.declared.statement.Pledges.{Pledges}
-use Rattle.scp_envelope.specs.declared.statement.Statement.{Statement}
-use Rattle.scp_vote.specs.declared.claim.Claim.TheVariants.{Committed}
-use Rattle.scp_vote.specs.Board.{Seen, Puts, KeepsOwn, IsNewBoard, Confirmed}
-use Rattle.scp_vote.specs.inside.Chain.{IsChain}
+use Rattle.scp_ballot_rules.specs.scp_envelope.specs.declared.statement.Pledges.{Pledges}
+use Rattle.scp_ballot_rules.specs.scp_envelope.specs.declared.statement.Statement.{Statement}
+use Rattle.scp_ballot_rules.specs.scp_vote.specs.declared.claim.Claim.TheVariants.{Committed}
+use Rattle.scp_ballot_rules.specs.scp_vote.specs.Board.{Seen, Puts, KeepsOwn, IsNewBoard, Confirmed}
+use Rattle.scp_ballot_rules.specs.scp_vote.specs.inside.Chain.{IsChain}
 use Rattle.scp_ballot_rules.specs.declared.state.State.{State}
 use Rattle.scp_ballot_rules.specs.declared.state.Phase.TheVariants.{Externalize}
 use Rattle.scp_ballot_rules.specs.Own.{own_of, or_zero, counter_of, StandsFor, IsBlank}

@@ -2,9 +2,9 @@
 -- No public clause reaches these definitions: nothing here need be believed.
 use Rattle.std.specs.Prelude.{◌≡◌, ◌≢◌, ◌<◌, ◌≤◌, ◌↔◌, ◌⊎◌, ℕ, List, Contains, Option, Some, None, IsSomeAnd}
 use Rattle.std.specs.Option.{ForSome}
-use Rattle.scp_types.specs.declared.ballot.Ballot.{Ballot}
+use Rattle.scp_vote.specs.scp_types.specs.declared.ballot.Ballot.{Ballot}
 use Rattle.std.specs.declared.cmp.Ordering.TheVariants.{Less}
-use Rattle.scp_envelope.specs.Ballots.{IsLess, value_cmp}
+use Rattle.scp_vote.specs.scp_envelope.specs.Ballots.{IsLess, value_cmp}
 use Rattle.scp_ballot_rules.specs.Greatest.{IsGreatestOf, ballot_at}
 use Rattle.scp_vote.specs.declared.claim.Claim.TheVariants.{Committed}
 use Rattle.scp_vote.specs.Board.{Seen, Accepted}

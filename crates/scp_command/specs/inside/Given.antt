@@ -1,11 +1,11 @@
 -- Scripts that people give.
 -- No public clause reaches these definitions: nothing here need be believed.
 use Rattle.std.specs.Prelude.{ℕ, ◌≡◌, ◌⊎◌, List}
-use Rattle.scp_prompt.specs.declared.failure.Failure.{Failure}
-use Rattle.scp_prompt.specs.declared.failure.Failure.TheVariants.{Word, Line, NoMemory}
+use Rattle.scp_convert.specs.scp_prompt.specs.declared.failure.Failure.{Failure}
+use Rattle.scp_convert.specs.scp_prompt.specs.declared.failure.Failure.TheVariants.{Word, Line, NoMemory}
 use Rattle.scp_script_short.specs.declared.expanded.Expanded.{Expanded}
-use Rattle.scp_device.specs.declared.bad.ReadFault.{ReadFault}
-use Rattle.scp_device.specs.declared.bad.ReadFault.TheVariants as reads
+use Rattle.scp_script_short.specs.scp_device.specs.declared.bad.ReadFault.{ReadFault}
+use Rattle.scp_script_short.specs.scp_device.specs.declared.bad.ReadFault.TheVariants as reads
 use Rattle.scp_command.specs.Given.{bad_of, placed}
 use Rattle.scp_command.specs.Causes.{IsHeavy}
 

@@ -5,7 +5,7 @@ use Rattle.scp_notices.specs.scp_line.specs.Outcome.{fault_line}
 use Rattle.scp_notices.specs.scp_line.specs.declared.playing.PlayFault.{PlayFault}
 use Rattle.scp_draw.specs.scp_trace.specs.declared.depth.Depth.{Depth}
 use Rattle.scp_draw.specs.scp_trace.specs.declared.playing.Traced.{Traced}
-use Rattle.scp_prompt.specs.declared.asked.Task.{Task}
+use Rattle.scp_convert.specs.scp_prompt.specs.declared.asked.Task.{Task}
 use Rattle.scp_command.specs.declared.plain.Telling.{Telling}
 use Rattle.scp_command.specs.declared.plain.Telling.TheVariants.{Whole, Part}
 use Rattle.scp_command.specs.Serving.{IsPlainTrace, IsPartTrace, IsPlain, IsPlainUpTo}

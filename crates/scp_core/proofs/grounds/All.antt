@@ -3,7 +3,7 @@ use Rattle.std.proofs.Common.{◌≡◌, ℕ, List, [], ◌∷◌, ◌++◌, ref
 use Rattle.std.specs.Prelude.{None, fold, length}
 use Rattle.std.specs.List.{AllByRecursion}
 use Rattle.std.proofs.lemmas.Grind.{flat_map-append}
-use Rattle.scp_driver.specs.Driver.{Says}
+use Rattle.scp_theorem.specs.scp_driver.specs.Driver.{Says}
 use Rattle.scp_theorem.specs.Grounds.{IsSentOut}
 use Rattle.scp_theorem.proofs.Basics.{none_some}
 use Rattle.scp_theorem.proofs.Fit.{first_fit}
@@ -15,20 +15,20 @@ use Rattle.scp_core.specs.Flow.{Flows}
 use Rattle.scp_core.specs.History.{Exchange, Past, hears, past_of, nothing_heard}
 use Rattle.scp_core.specs.Ledger.{IsFailure}
 use Rattle.scp_core.specs.Node.{NodeView}
-use Rattle.scp_core.specs.Theorem.{made, AreSteps, LedgerTheorem}
+use Rattle.scp_core.specs.Theorem.{begun, AreSteps, LedgerTheoremFrom}
 use Rattle.scp_core.specs.Sent.{sent_by, sent_to, grounds_of}
-use Rattle.scp_core.proofs.Below.{Laws}
+use Rattle.scp_core.proofs.StageLaws.{Laws}
 use Rattle.scp_core.proofs.grounds.Handing.{stands_sent, first_boxes, sent_out}
 use Rattle.scp_core.proofs.grounds.Stepping.{State, state_of, at_arrived, state_step, quiet}
 
--- ---- the node as it was made
+-- ---- the node as it began
 
-module _ {D : Type 0} (says : Says D) where
-  made_stands : Laws says → (driver : D) (c : Config) → State nothing_heard (λ link. []) (made driver c)
-  made_stands law driver c = state_of nothing_heard (λ link. []) (made driver c) [] refl (record {
+module _ {D : Type 0} (says : Says D) (first : ℕ) (base : List ℕ) where
+  begun_stands : Laws says → (driver : D) (c : Config) → State nothing_heard (λ link. []) (begun driver c first base)
+  begun_stands law driver c = state_of nothing_heard (λ link. []) (begun driver c first base) [] refl (record {
     handed = [];
     boxes = first_boxes law.empty (length c.peers);
-    fit = first_fit (grounds_of (made driver c) []) (made driver c).ledger;
+    fit = first_fit (grounds_of (begun driver c first base) []) (begun driver c first base).ledger;
     machines = λ at machine e. none_some None machine refl e;
   })
 
@@ -53,12 +53,13 @@ module _ {D : Type 0} (says : Says D) where
       let all = along law c xs (hears c p x.0 x.1) (λ link. sent link ++ sent_by link x.0 x.1) a.0 last a.2 next in
       same_bytes (fold (λ q y. hears c q y.0 y.1) (hears c p x.0 x.1) xs) (λ link. (sent link ++ sent_by link x.0 x.1) ++ sent_to link xs) (λ link. sent link ++ sent_to link (x ∷ xs)) last (λ link. sym (append_assoc (sent link) (sent_by link x.0 x.1) (sent_to link xs))) all
 
+module _ {D : Type 0} (says : Says D) (first : ℕ) (base : List ℕ) where
   -- ---- all that was sent
 
   -- by the exchanges and the node that they left, while it runs
-  pub sent_at : Laws says → (past : List Exchange) (v : NodeView D) → LedgerTheorem says past v → (f : Flows says (past_of v.config past) v) → (link : ℕ) → IsSentOut (grounds_of v f.arrived) link (sent_to link past)
+  pub sent_at : Laws says → (past : List Exchange) (v : NodeView D) → LedgerTheoremFrom says first base past v → (f : Flows says (past_of v.config past) v) → (link : ℕ) → IsSentOut (grounds_of v f.arrived) link (sent_to link past)
   sent_at law past v h f =
-      let s : State (past_of v.config past) (λ link. sent_to link past) v = along law v.config past nothing_heard (λ link. []) (made h.driver v.config) v h.replies (made_stands says law h.driver v.config) in
+      let s : State (past_of v.config past) (λ link. sent_to link past) v = along says law v.config past nothing_heard (λ link. []) (begun h.driver v.config first base) v h.replies (begun_stands says first base law h.driver v.config) in
       let st = at_arrived says (past_of v.config past) (λ link. sent_to link past) v f s in
       sent_out (λ link. sent_to link past) (grounds_of v f.arrived) v.ledger v.outboxes st
 

@@ -3,21 +3,21 @@ use Rattle.std.proofs.Common.{◌≡◌, ℕ, List, [], ◌∷◌, ◌++◌, sym
 use Rattle.std.specs.Prelude.{Option, Any, Contains, flat_map, option_to_list}
 use Rattle.std.proofs.lemmas.Grind.{flat_map-append}
 use Rattle.std.proofs.lemmas.List.Elements.{Contains-push, Contains-append_left, Contains-append_right}
-use Rattle.scp_driver.specs.Driver.{Says}
-use Rattle.scp_types.specs.declared.names.Slot.{Slot}
-use Rattle.scp_wire.specs.declared.message.Message.{Message}
-use Rattle.scp_wire.specs.declared.link.Command.{Command}
-use Rattle.scp_wire.specs.declared.link.Command.TheVariants.{Ask}
-use Rattle.scp_pending.specs.declared.ready.Ready.{Ready}
-use Rattle.scp_pending.specs.declared.ready.Ready.TheVariants as ready
-use Rattle.scp_pending.specs.Endings.{commands_of, passed}
-use Rattle.scp_ledger.specs.declared.took.Onward.{Onward}
-use Rattle.scp_ledger.specs.declared.took.Onward.TheVariants.{Decided, Asked}
-use Rattle.scp_ledger.specs.Journals.{request_by}
-use Rattle.scp_ledger.specs.Onwards.{request_on, requests_on}
-use Rattle.scp_ledger.specs.Runs.{things}
-use Rattle.scp_apply.specs.Applied.{value_of}
-use Rattle.scp_apply.specs.Applier.{ApplierView, Takes}
+use Rattle.scp_theorem.specs.scp_driver.specs.Driver.{Says}
+use Rattle.scp_theorem.specs.scp_types.specs.declared.names.Slot.{Slot}
+use Rattle.scp_theorem.specs.scp_wire.specs.declared.message.Message.{Message}
+use Rattle.scp_theorem.specs.scp_wire.specs.declared.link.Command.{Command}
+use Rattle.scp_theorem.specs.scp_wire.specs.declared.link.Command.TheVariants.{Ask}
+use Rattle.scp_theorem.specs.scp_pending.specs.declared.ready.Ready.{Ready}
+use Rattle.scp_theorem.specs.scp_pending.specs.declared.ready.Ready.TheVariants as ready
+use Rattle.scp_theorem.specs.scp_pending.specs.Endings.{commands_of, passed}
+use Rattle.scp_theorem.specs.scp_ledger.specs.declared.took.Onward.{Onward}
+use Rattle.scp_theorem.specs.scp_ledger.specs.declared.took.Onward.TheVariants.{Decided, Asked}
+use Rattle.scp_theorem.specs.scp_ledger.specs.Journals.{request_by}
+use Rattle.scp_theorem.specs.scp_ledger.specs.Onwards.{request_on, requests_on}
+use Rattle.scp_theorem.specs.scp_ledger.specs.Runs.{things}
+use Rattle.scp_theorem.specs.scp_apply.specs.Applied.{value_of}
+use Rattle.scp_theorem.specs.scp_apply.specs.Applier.{ApplierView, Takes}
 use Rattle.scp_theorem.specs.Grounds.{TellsToAsk, AsksForRecord}
 use Rattle.scp_theorem.proofs.Asked.{command_in, request_stands, value_there, answer_may}
 use Rattle.scp_theorem.proofs.Replies.{MayReply}
@@ -26,7 +26,7 @@ use Rattle.scp_core.specs.History.{Past}
 use Rattle.scp_core.specs.Node.{NodeView}
 use Rattle.scp_core.specs.Sent.{grounds_of}
 use Rattle.scp_core.proofs.Accounting.{kept_at}
-use Rattle.scp_core.proofs.Below.{Laws}
+use Rattle.scp_core.proofs.StageLaws.{Laws}
 
 module _ {D : Type 0} (says : Says D) where
   -- a command that the slot stage takes was taken

@@ -4,16 +4,16 @@ use Rattle.std.specs.Prelude.{Option, Some, None, slice_get, slice_set, replicat
 use Rattle.std.proofs.lemmas.List.{get_or_append_left}
 use Rattle.std.proofs.lemmas.List.Elements.{All-contains, All-nil}
 use Rattle.std.proofs.lemmas.Bool.{eqb-true, eqb-false}
-use Rattle.scp_wire.specs.declared.message.Message.{Message}
-use Rattle.scp_wire.specs.Message.{message_value, SpellsMessage}
-use Rattle.scp_outbox.specs.Outbox.{OutboxView}
-use Rattle.scp_outbox.specs.Handing.{PutsAll, GivesThere, empty_outbox}
-use Rattle.scp_outbox.specs.Sent.{statement_of, IsStep, AreNewer, AreSent}
-use Rattle.scp_outbox.specs.Waiting.{Sends}
-use Rattle.scp_outbox.specs.Sending.{EmptySends, PutsKeepSends, GivesKeepSends}
-use Rattle.scp_pending.specs.Queues.{hash_of}
-use Rattle.scp_ledger.specs.declared.took.Outgoing.{Outgoing}
-use Rattle.scp_ledger.specs.Seen.{LedgerView}
+use Rattle.scp_theorem.specs.scp_wire.specs.declared.message.Message.{Message}
+use Rattle.scp_theorem.specs.scp_wire.specs.Message.{message_value, SpellsMessage}
+use Rattle.scp_theorem.specs.scp_outbox.specs.Outbox.{OutboxView}
+use Rattle.scp_theorem.specs.scp_outbox.specs.Handing.{PutsAll, GivesThere, empty_outbox}
+use Rattle.scp_theorem.specs.scp_outbox.specs.Sent.{statement_of, IsStep, AreNewer, AreSent}
+use Rattle.scp_theorem.specs.scp_outbox.specs.Waiting.{Sends}
+use Rattle.scp_theorem.specs.scp_outbox.specs.Sending.{EmptySends, PutsKeepSends, GivesKeepSends}
+use Rattle.scp_theorem.specs.scp_pending.specs.Queues.{hash_of}
+use Rattle.scp_theorem.specs.scp_ledger.specs.declared.took.Outgoing.{Outgoing}
+use Rattle.scp_theorem.specs.scp_ledger.specs.Seen.{LedgerView}
 use Rattle.scp_theorem.specs.Grounds.{Grounds, MaySend, IsSentOut}
 use Rattle.scp_theorem.specs.Handed.{messages_for, handed_by}
 use Rattle.scp_theorem.proofs.Basics.{set_else, set_there, there_is, none_some, some_same}

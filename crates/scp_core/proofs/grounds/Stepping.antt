@@ -3,12 +3,12 @@ use Rattle.std.proofs.Common.{◌≡◌, ◌≢◌, ℕ, Bool, true, false, List
 use Rattle.std.specs.Prelude.{Option, Some, slice_set, if◌then◌else◌}
 use Rattle.std.proofs.lemmas.Bool.{eq-eqb, ne_eqb}
 use Rattle.std.proofs.lemmas.List.{append_cancel_right}
-use Rattle.scp_driver.specs.Driver.{Says}
-use Rattle.scp_wire.specs.declared.link.Inbound.{Inbound}
-use Rattle.scp_wire.specs.declared.link.Inbound.TheVariants as inbound
-use Rattle.scp_wire.specs.declared.message.Message.{Message}
-use Rattle.scp_pending.specs.Rules.{Settled, settled_by, reply as reply_to}
-use Rattle.scp_pending.specs.declared.ready.Ready.{Ready}
+use Rattle.scp_theorem.specs.scp_driver.specs.Driver.{Says}
+use Rattle.scp_theorem.specs.scp_wire.specs.declared.link.Inbound.{Inbound}
+use Rattle.scp_theorem.specs.scp_wire.specs.declared.link.Inbound.TheVariants as inbound
+use Rattle.scp_theorem.specs.scp_wire.specs.declared.message.Message.{Message}
+use Rattle.scp_theorem.specs.scp_pending.specs.Rules.{Settled, settled_by, reply as reply_to}
+use Rattle.scp_theorem.specs.scp_pending.specs.declared.ready.Ready.{Ready}
 use Rattle.scp_theorem.specs.Grounds.{Grounds, start_of, IsSentOut}
 use Rattle.scp_theorem.specs.Handed.{out_of}
 use Rattle.scp_theorem.proofs.Asked.{applied_more}
@@ -27,7 +27,7 @@ use Rattle.scp_core.specs.History.{Past, accepts, moves, hears, readings_of}
 use Rattle.scp_core.specs.Node.{NodeView, said_in, PendTakes, SlotTakes, ApplyTakes, Accepts, Moves, SendsOut, Step, Fails}
 use Rattle.scp_core.specs.Theorem.{IsReply}
 use Rattle.scp_core.specs.Sent.{who_of, sent_by, grounds_of}
-use Rattle.scp_core.proofs.Below.{Laws}
+use Rattle.scp_core.proofs.StageLaws.{Laws}
 use Rattle.scp_core.proofs.Links.{hand_cut}
 use Rattle.scp_core.proofs.Idling.{start_is}
 use Rattle.scp_core.proofs.Putting.{hands_each}

@@ -4,22 +4,22 @@ use Rattle.std.specs.Prelude.{Option, Some, None, flat_map, length, replicate, o
 use Rattle.std.specs.List.{AllZip}
 use Rattle.std.proofs.lemmas.Grind.{flat_map-append}
 use Rattle.std.proofs.lemmas.List.{map-append}
-use Rattle.scp_driver.specs.Driver.{Says}
-use Rattle.scp_quorum.specs.QuorumTree.{QuorumTree}
-use Rattle.scp_wire.specs.declared.link.Inbound.{Inbound}
-use Rattle.scp_wire.specs.declared.link.Inbound.TheVariants as inbound
-use Rattle.scp_wire.specs.declared.message.Message.{Message}
-use Rattle.scp_wire.specs.Message.{message_value, SpellsMessage}
-use Rattle.scp_outbox.specs.Outbox.{OutboxView}
-use Rattle.scp_outbox.specs.Handing.{empty_outbox}
-use Rattle.scp_pending.specs.declared.ready.Ready.{Ready}
-use Rattle.scp_pending.specs.Pends.{Pends, start_of as started}
-use Rattle.scp_pending.specs.Rules.{PendingView, Settled, fresh, rules, reply as reply_to, settled_by}
-use Rattle.scp_ledger.specs.declared.took.Onward.{Onward}
-use Rattle.scp_ledger.specs.declared.took.Outgoing.{Outgoing}
-use Rattle.scp_ledger.specs.Runs.{Taking, thing_of, things, onward_of, onwards_of, nothing_taken}
-use Rattle.scp_ledger.specs.Seen.{LedgerView}
-use Rattle.scp_apply.specs.Applier.{ApplierView}
+use Rattle.scp_theorem.specs.scp_driver.specs.Driver.{Says}
+use Rattle.scp_theorem.specs.scp_quorum.specs.QuorumTree.{QuorumTree}
+use Rattle.scp_theorem.specs.scp_wire.specs.declared.link.Inbound.{Inbound}
+use Rattle.scp_theorem.specs.scp_wire.specs.declared.link.Inbound.TheVariants as inbound
+use Rattle.scp_theorem.specs.scp_wire.specs.declared.message.Message.{Message}
+use Rattle.scp_theorem.specs.scp_wire.specs.Message.{message_value, SpellsMessage}
+use Rattle.scp_theorem.specs.scp_outbox.specs.Outbox.{OutboxView}
+use Rattle.scp_theorem.specs.scp_outbox.specs.Handing.{empty_outbox}
+use Rattle.scp_theorem.specs.scp_pending.specs.declared.ready.Ready.{Ready}
+use Rattle.scp_theorem.specs.scp_pending.specs.Pends.{Pends, start_of as started}
+use Rattle.scp_theorem.specs.scp_pending.specs.Rules.{PendingView, Settled, fresh, rules, reply as reply_to, settled_by}
+use Rattle.scp_theorem.specs.scp_ledger.specs.declared.took.Onward.{Onward}
+use Rattle.scp_theorem.specs.scp_ledger.specs.declared.took.Outgoing.{Outgoing}
+use Rattle.scp_theorem.specs.scp_ledger.specs.Runs.{Taking, thing_of, things, onward_of, onwards_of, nothing_taken}
+use Rattle.scp_theorem.specs.scp_ledger.specs.Seen.{LedgerView}
+use Rattle.scp_theorem.specs.scp_apply.specs.Applier.{ApplierView}
 use Rattle.scp_theorem.specs.Grounds.{start_of}
 use Rattle.scp_theorem.specs.Handed.{out_of, replies_from, out_by, outs_of, Serves, ServesEach, nothing_applied, Answers, AnswersEach}
 use Rattle.scp_theorem.proofs.Basics.{there_is, true_isnt}
@@ -35,7 +35,7 @@ use Rattle.scp_core.specs.History.{Past, accepts, moves, hears, readings_of}
 use Rattle.scp_core.specs.Node.{NodeView, said_in, PendBrings, PendTakes, SlotTakes, ApplyTakes, Accepts, Moves, SendsOut, Step, Fails}
 use Rattle.scp_core.specs.Theorem.{IsReply}
 use Rattle.scp_core.specs.Sent.{who_of, sent_by}
-use Rattle.scp_core.proofs.Below.{Laws}
+use Rattle.scp_core.proofs.StageLaws.{Laws}
 use Rattle.scp_core.proofs.Links.{hand_cut}
 use Rattle.scp_core.proofs.Putting.{hands_each}
 use Rattle.scp_core.proofs.Queues.{within, way-fill, way-put, way-take}
@@ -102,7 +102,7 @@ module _ {D : Type 0} where
     outboxes = v.outboxes;
   }
 
-module _ {D : Type 0} (says : Says D) (driver : D) where
+module _ {D : Type 0} (says : Says D) (driver : D) (first : ℕ) (base : List ℕ) where
   -- what each stage took and handed out since the node was made, and the moves at its outboxes
   pub record Turned (c : Config) (sent : ℕ → List (List ℕ)) (taken : List Inbound) (v : Stages D) : Type 0 where
     pub given : List Ready
@@ -110,13 +110,13 @@ module _ {D : Type 0} (says : Says D) (driver : D) where
     pub local : v.pending.settled.store.local ≡ c.set
     pub takes : List Taking
     pub ready : IsOnWay given (things takes) v.ready v.pend_hand
-    pub served : ServesEach says (nothing_taken c.me c.set driver c.peers 1) takes v.ledger
+    pub served : ServesEach says (nothing_taken c.me c.set driver c.peers first) takes v.ledger
     pub applied : List Onward
     pub decided : IsOnWay (onwards_of takes) applied v.decided v.slot_hand
     pub turns : List Move
     pub replies_are : flat_map replies_in turns ≡ replies_from (start_of (who_of c)) taken
     pub said_are : flat_map sayings_in turns ≡ outs_of takes
-    pub answered : AnswersEach (nothing_applied 1) applied (flat_map answers_in turns) v.applier
+    pub answered : AnswersEach (nothing_applied first base) applied (flat_map answers_in turns) v.applier
     pub moved : MovesEach (replicate (length c.peers) empty_outbox) turns v.outboxes
     pub spelt : (link : ℕ) → AllZip Spells (sent link) (flat_map (given_over link) turns)
 
@@ -186,7 +186,7 @@ module _ {D : Type 0} (says : Says D) (driver : D) where
             ∙ ap (λ (s : Settled). replies_from start taken ++ out_of (reply_to s b.x)) settled
             ∙ sym (replies_more start taken b.x);
         said_are = move_none sayings_in t.turns move refl ∙ t.said_are;
-        answered = subst (λ (os : List Outgoing). AnswersEach (nothing_applied 1) t.applied os old.applier) (sym (move_none answers_in t.turns move refl)) t.answered;
+        answered = subst (λ (os : List Outgoing). AnswersEach (nothing_applied first base) t.applied os old.applier) (sym (move_none answers_in t.turns move refl)) t.answered;
         moved = moves_one (replicate (length c.peers) empty_outbox) old.outboxes new.outboxes t.turns move t.moved (hands_each old.outboxes new.outboxes answer b.hands);
         spelt = λ link. subst (λ (ms : List Message). AllZip Spells (sent link) ms) (sym (move_none (given_over link) t.turns move refl)) (t.spelt link);
       }
@@ -222,7 +222,7 @@ module _ {D : Type 0} (says : Says D) (driver : D) where
         local = t.local;
         takes = t.takes ++ last ∷ [];
         ready = subst (λ (xs : List Ready). IsOnWay t.given xs b.rest old.pend_hand) (sym (map-append thing_of t.takes (last ∷ []))) (way-take t.given (things t.takes) old.ready b.rest old.pend_hand b.x b.ready t.ready);
-        served = serves_one says (nothing_taken c.me c.set driver c.peers 1) old.ledger b.after' t.takes last t.served serves;
+        served = serves_one says (nothing_taken c.me c.set driver c.peers first) old.ledger b.after' t.takes last t.served serves;
         applied = t.applied;
         decided = subst (λ (ys : List Onward). IsOnWay ys t.applied old.decided b.took.onward) (sym (flat_map-append onward_of t.takes (last ∷ []) ∙ ap (λ (ys : List Onward). onwards_of t.takes ++ ys) (append-nil (option_to_list b.took.onward)))) (way-fill (onwards_of t.takes) t.applied old.decided old.slot_hand b.took.onward empty t.decided);
         turns = t.turns ++ move ∷ [];
@@ -231,7 +231,7 @@ module _ {D : Type 0} (says : Says D) (driver : D) where
             move_more sayings_in t.turns move
             ∙ ap (λ (os : List Outgoing). os ++ b.took.outgoing) t.said_are
             ∙ sym (flat_map-append out_by t.takes (last ∷ []) ∙ ap (λ (os : List Outgoing). outs_of t.takes ++ os) (append-nil b.took.outgoing));
-        answered = subst (λ (os : List Outgoing). AnswersEach (nothing_applied 1) t.applied os old.applier) (sym (move_none answers_in t.turns move refl)) t.answered;
+        answered = subst (λ (os : List Outgoing). AnswersEach (nothing_applied first base) t.applied os old.applier) (sym (move_none answers_in t.turns move refl)) t.answered;
         moved = moves_one (replicate (length c.peers) empty_outbox) old.outboxes new.outboxes t.turns move t.moved b.hands;
         spelt = λ link. subst (λ (ms : List Message). AllZip Spells (sent link) ms) (sym (move_none (given_over link) t.turns move refl)) (t.spelt link);
       }
@@ -272,7 +272,7 @@ module _ {D : Type 0} (says : Says D) (driver : D) where
         turns = t.turns ++ move ∷ [];
         replies_are = move_none replies_in t.turns move refl ∙ t.replies_are;
         said_are = move_none sayings_in t.turns move refl ∙ t.said_are;
-        answered = subst (λ (os : List Outgoing). AnswersEach (nothing_applied 1) (t.applied ++ b.x ∷ []) os b.after') (sym (move_more answers_in t.turns move)) (answers_one (nothing_applied 1) old.applier b.after' t.applied (flat_map answers_in t.turns) (out_of b.answer) b.x b.answer t.answered answers refl);
+        answered = subst (λ (os : List Outgoing). AnswersEach (nothing_applied first base) (t.applied ++ b.x ∷ []) os b.after') (sym (move_more answers_in t.turns move)) (answers_one (nothing_applied first base) old.applier b.after' t.applied (flat_map answers_in t.turns) (out_of b.answer) b.x b.answer t.answered answers refl);
         moved = moves_one (replicate (length c.peers) empty_outbox) old.outboxes new.outboxes t.turns move t.moved (hands_each old.outboxes new.outboxes b.answer b.hands);
         spelt = λ link. subst (λ (ms : List Message). AllZip Spells (sent link) ms) (sym (move_none (given_over link) t.turns move refl)) (t.spelt link);
       }
@@ -334,7 +334,7 @@ module _ {D : Type 0} (says : Says D) (driver : D) where
           turns = turned.turns ++ move ∷ [];
           replies_are = move_none replies_in turned.turns move refl ∙ turned.replies_are;
           said_are = move_none sayings_in turned.turns move refl ∙ turned.said_are;
-          answered = subst (λ (os : List Outgoing). AnswersEach (nothing_applied 1) turned.applied os old.applier) (sym (move_none answers_in turned.turns move refl)) turned.answered;
+          answered = subst (λ (os : List Outgoing). AnswersEach (nothing_applied first base) turned.applied os old.applier) (sym (move_none answers_in turned.turns move refl)) turned.answered;
           moved = moves_one (replicate (length old.config.peers) empty_outbox) old.outboxes new.outboxes turned.turns move turned.moved d.gives;
           spelt = λ link. subst (λ (ms : List Message). AllZip Spells (sent link ++ sent_by link (Drain l) (Sent bytes)) ms) (sym (move_more (given_over link) turned.turns move)) (spells_on (nat_eq l link) (sent link) (flat_map (given_over link) turned.turns) bytes d.message (turned.spelt link) d.spells);
         },

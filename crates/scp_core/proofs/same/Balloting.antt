@@ -4,25 +4,25 @@ use Rattle.std.specs.Prelude.{◌↔◌, ◌⊎◌, Option, None, IsSome}
 use Rattle.std.specs.Option.{ForSome}
 use Rattle.std.specs.BTreeSet as tree_set
 use Rattle.std.specs.List.Sorted.{IsStrictlySortedBy}
-use Rattle.scp_types.specs.declared.names.Hash.{Hash}
-use Rattle.scp_types.specs.declared.names.NodeId.{NodeId}
-use Rattle.scp_quorum.specs.NodeSet.{node_cmp, is_in}
-use Rattle.scp_quorum.specs.QuorumTree.{QuorumTree}
-use Rattle.scp_envelope.specs.Newer.{ArePledgesNewer}
-use Rattle.scp_envelope.specs.declared.statement.Envelope.{Envelope}
-use Rattle.scp_envelope.specs.declared.statement.Pledges.{Pledges}
-use Rattle.scp_envelope.specs.declared.statement.Pledges.TheVariants.{Prepare as Preparing, Confirm as Confirming, Externalize as Externalizing, Nominate as Nominating}
-use Rattle.scp_vote.specs.declared.claim.Claim.TheVariants.{Committed}
-use Rattle.scp_vote.specs.Board.{Seen, Certificate}
-use Rattle.scp_ballot_rules.specs.declared.state.State.{State}
-use Rattle.scp_ballot_rules.specs.declared.state.Phase.TheVariants.{Prepare}
-use Rattle.scp_ballot_rules.specs.Own.{own_of, IsBlank}
-use Rattle.scp_ballot_rules.specs.Inputs.{AfterInput}
-use Rattle.scp_ballot_rules.specs.Laws.{InputIsAFunction}
-use Rattle.scp_ballot.specs.Balloting.{Ballots, IsDecided, IsOwnEnvelope, Advances, IsCertified, Externalizes, last_emitted, Begins}
-use Rattle.scp_ballot.specs.Outcome.{BeginsBlank, ComesOut, IsToEmit, HearsOn}
-use Rattle.scp_ballot.specs.declared.balloted.Balloted.{Balloted}
-use Rattle.scp_ballot.specs.declared.balloted.Certified.{Certified}
+use Rattle.scp_theorem.specs.scp_types.specs.declared.names.Hash.{Hash}
+use Rattle.scp_theorem.specs.scp_types.specs.declared.names.NodeId.{NodeId}
+use Rattle.scp_theorem.specs.scp_quorum.specs.NodeSet.{node_cmp, is_in}
+use Rattle.scp_theorem.specs.scp_quorum.specs.QuorumTree.{QuorumTree}
+use Rattle.scp_theorem.specs.scp_envelope.specs.Newer.{ArePledgesNewer}
+use Rattle.scp_theorem.specs.scp_envelope.specs.declared.statement.Envelope.{Envelope}
+use Rattle.scp_theorem.specs.scp_envelope.specs.declared.statement.Pledges.{Pledges}
+use Rattle.scp_theorem.specs.scp_envelope.specs.declared.statement.Pledges.TheVariants.{Prepare as Preparing, Confirm as Confirming, Externalize as Externalizing, Nominate as Nominating}
+use Rattle.scp_theorem.specs.scp_vote.specs.declared.claim.Claim.TheVariants.{Committed}
+use Rattle.scp_theorem.specs.scp_vote.specs.Board.{Seen, Certificate}
+use Rattle.scp_theorem.specs.scp_ballot_rules.specs.declared.state.State.{State}
+use Rattle.scp_theorem.specs.scp_ballot_rules.specs.declared.state.Phase.TheVariants.{Prepare}
+use Rattle.scp_theorem.specs.scp_ballot_rules.specs.Own.{own_of, IsBlank}
+use Rattle.scp_theorem.specs.scp_ballot_rules.specs.Inputs.{AfterInput}
+use Rattle.scp_theorem.specs.scp_ballot_rules.specs.Laws.{InputIsAFunction}
+use Rattle.scp_theorem.specs.scp_ballot.specs.Balloting.{Ballots, IsDecided, IsOwnEnvelope, Advances, IsCertified, Externalizes, last_emitted, Begins}
+use Rattle.scp_theorem.specs.scp_ballot.specs.Outcome.{BeginsBlank, ComesOut, IsToEmit, HearsOn}
+use Rattle.scp_theorem.specs.scp_ballot.specs.declared.balloted.Balloted.{Balloted}
+use Rattle.scp_theorem.specs.scp_ballot.specs.declared.balloted.Certified.{Certified}
 use Rattle.scp_core.proofs.same.Ones.{bool_one, option_one, some_one, sets_one}
 use Rattle.scp_core.proofs.same.Nominating.{seen_one, puts_one}
 

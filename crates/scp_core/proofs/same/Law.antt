@@ -1,15 +1,15 @@
 -- Two runs of one configuration and the same events.
-use Rattle.std.proofs.Common.{◌≡◌, ◌≢◌, Bool, true, false, List, [], ◌∷◌, refl, sym, ◌∙◌, ap, subst, inl, inr}
+use Rattle.std.proofs.Common.{◌≡◌, ◌≢◌, ℕ, Bool, true, false, List, [], ◌∷◌, refl, sym, ◌∙◌, ap, subst, inl, inr}
 use Rattle.std.specs.Prelude.{◌⊎◌, map, fold}
-use Rattle.scp_driver.specs.Driver.{Says}
+use Rattle.scp_theorem.specs.scp_driver.specs.Driver.{Says}
 use Rattle.scp_core.specs.History.{Exchange, Past, hears, past_of, nothing_heard}
 use Rattle.scp_core.specs.Node.{NodeView}
-use Rattle.scp_core.specs.Theorem.{made, IsReply, AreSteps}
+use Rattle.scp_core.specs.Theorem.{begun, IsReply, AreSteps}
 use Rattle.scp_core.specs.declared.config.Config.{Config}
 use Rattle.scp_core.specs.declared.event.Event.{Event}
 use Rattle.scp_core.specs.declared.event.Reply.{Reply}
 use Rattle.scp_core.specs.declared.event.Reply.TheVariants.{JournalFull, NoMemory}
-use Rattle.scp_core.specs.Same.{RunAlike, event_of, NoneLackedMemory, SameEventsSameReplies}
+use Rattle.scp_core.specs.Same.{RunAlike, event_of, NoneLackedMemory, SameEventsSameRepliesFrom}
 use Rattle.scp_core.proofs.same.Nodes.{Laws, KeptAlike, kept_of, step_both}
 use Rattle.scp_core.proofs.same.Stages.{heads, tails}
 
@@ -19,9 +19,9 @@ module _ {D : Type 0} where
     kept : KeptAlike v w
     runs : p.failed ≡ false → RunAlike v w
 
-  at_first : (driver : D) (c : Config) → Stand nothing_heard (made driver c) (made driver c)
-  at_first driver c =
-      let alike : RunAlike (made driver c) (made driver c) = record {
+  at_first : (driver : D) (c : Config) (first : ℕ) (base : List ℕ) → Stand nothing_heard (begun driver c first base) (begun driver c first base)
+  at_first driver c first base =
+      let alike : RunAlike (begun driver c first base) (begun driver c first base) = record {
         links = refl;
         inbox = (refl, refl);
         pending = refl;
@@ -30,10 +30,10 @@ module _ {D : Type 0} where
         last_command = refl;
         last_said = refl;
         decided = (refl, refl, refl);
-        applier = record { first = refl; failed = refl; applied = refl; buffer = λ d. (λ h. h, λ h. h) };
+        applier = record { first = refl; base = refl; failed = refl; applied = refl; buffer = λ d. (λ h. h, λ h. h) };
         outboxes = refl;
       } in
-      record { kept = kept_of (made driver c) (made driver c) refl alike; runs = λ _. alike }
+      record { kept = kept_of (begun driver c first base) (begun driver c first base) refl alike; runs = λ _. alike }
 
 clash : (b : Bool) → b ≡ false → b ≡ true → ⊥
 clash b f t = cc
@@ -102,11 +102,11 @@ module _ {D : Type 0} (says : Says D) where
       let more = along law c one other (hears c p a.0 a.1) x.0 y.0 last end x.2 later rest m.1 n.1 step.1 in
       record { same = λ i. exchange i ∷ more.same i; stand = more.stand }
 
-  pub same_replies : Laws says → SameEventsSameReplies says
-  same_replies law = λ one other v w h k driver config events m n.
+  pub same_replies : Laws says → (first : ℕ) (base : List ℕ) → SameEventsSameRepliesFrom says first base
+  same_replies law first base = λ one other v w h k driver config events m n.
       let c = v.config in
-      let theirs : AreSteps says c nothing_heard (made h.driver c) other w = subst (λ (d : Config). AreSteps says d nothing_heard (made h.driver d) other w) (sym config) (subst (λ (app : D). AreSteps says w.config nothing_heard (made app w.config) other w) (sym driver) k.replies) in
-      let both = along law c one other nothing_heard (made h.driver c) (made h.driver c) v w h.replies theirs events m n (at_first h.driver c) in
+      let theirs : AreSteps says c nothing_heard (begun h.driver c first base) other w = subst (λ (d : Config). AreSteps says d nothing_heard (begun h.driver d first base) other w) (sym config) (subst (λ (app : D). AreSteps says w.config nothing_heard (begun app w.config first base) other w) (sym driver) k.replies) in
+      let both = along law c one other nothing_heard (begun h.driver c first base) (begun h.driver c first base) v w h.replies theirs events m n (at_first h.driver c first base) in
       let failed : v.failed ≡ w.failed = h.failed ∙ (λ i. (past_of (config i) (both.same i)).failed) ∙ sym k.failed in (
         both.same,
         record {

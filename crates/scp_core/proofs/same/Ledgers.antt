@@ -5,50 +5,50 @@ use Rattle.std.specs.BTreeMap as tree
 use Rattle.std.specs.Ordering.{nat_cmp}
 use Rattle.std.proofs.lemmas.Bool.{cases_lt}
 use Rattle.std.proofs.lemmas.List.{map-append}
-use Rattle.scp_types.specs.declared.names.ConnId.{ConnId}
-use Rattle.scp_types.specs.declared.names.NodeId.{NodeId}
-use Rattle.scp_types.specs.declared.names.Seq.{Seq}
-use Rattle.scp_types.specs.declared.names.Slot.{Slot}
-use Rattle.scp_quorum.specs.QuorumTree.{QuorumTree}
-use Rattle.scp_quorum.specs.SharedSet.{SharedSet}
-use Rattle.scp_quorum.specs.Sane.{IsInRange}
-use Rattle.scp_driver.specs.declared.driver.Level.{Level}
-use Rattle.scp_driver.specs.declared.driver.Level.TheVariants.{FullyValidated}
-use Rattle.scp_vote.specs.Board.{kind_of_pledges}
-use Rattle.scp_vote.specs.declared.claim.StatementKind.TheVariants.{Nomination as Nominating}
-use Rattle.scp_wire.specs.Boxed.{Boxed}
-use Rattle.scp_wire.specs.declared.link.Command.{Command}
-use Rattle.scp_wire.specs.declared.link.Command.TheVariants.{Propose, Round, Timer, Tick, Ask}
-use Rattle.scp_wire.specs.declared.message.Message.{Message}
-use Rattle.scp_wire.specs.declared.message.Message.TheVariants.{Envelope, GetSet, Set, NoSet, GetRecord, Record, Records}
-use Rattle.scp_pending.specs.declared.ready.Ready.{Ready}
-use Rattle.scp_pending.specs.declared.ready.Ready.TheVariants as ready
-use Rattle.scp_nominate.specs.Nomination.{Nomination}
-use Rattle.scp_ballot.specs.Balloting.{HasBallot}
-use Rattle.scp_slot.specs.Slot.{SlotView, slot_view, driver_of, Begins}
-use Rattle.scp_slot.specs.declared.machine.SlotMachine.{SlotMachine}
-use Rattle.scp_slot.specs.declared.newest.Heard.{Heard as Kept}
-use Rattle.scp_slot.specs.declared.output.SlotInput.{SlotInput}
-use Rattle.scp_slot.specs.declared.output.SlotInput.TheVariants as input
-use Rattle.scp_slot.specs.declared.output.SlotOutput.{SlotOutput}
-use Rattle.scp_ledger.specs.declared.journal.Asking.{Asking}
-use Rattle.scp_ledger.specs.declared.journal.Decision.{Decision}
-use Rattle.scp_ledger.specs.declared.journal.Fate.{Fate}
-use Rattle.scp_ledger.specs.declared.journal.Fate.TheVariants.{Taken}
-use Rattle.scp_ledger.specs.declared.journal.Verdict.{Verdict}
-use Rattle.scp_ledger.specs.declared.journal.Verdict.TheVariants.{OldSlot, FarSlot, Already, Unasked, Idle, Fresh, Forwarded, Decided as Deciding}
-use Rattle.scp_ledger.specs.declared.took.CommandFate.{CommandFate}
-use Rattle.scp_ledger.specs.declared.took.CommandFate.TheVariants.{BadValue, ProposedBefore, Proposed, NoRoundLeft, RoundAdded, NoBallot, BallotStays, BallotMoved}
-use Rattle.scp_ledger.specs.declared.took.Outgoing.{Outgoing}
-use Rattle.scp_ledger.specs.declared.took.Took.{Took}
-use Rattle.scp_ledger.specs.CommandFates.{BeforeMachine, ByMachine, IsProposalFate, IsRoundFate, IsTimerFate, IsAskFate, TellsCommand, TellsFate}
-use Rattle.scp_ledger.specs.Decisions.{is_decided, IsLowest}
-use Rattle.scp_ledger.specs.Journal.{newest}
-use Rattle.scp_ledger.specs.Journals.{Entry}
-use Rattle.scp_ledger.specs.Ledger.{heard_of, IsMachineOf, FitsMachine, IsRunning}
-use Rattle.scp_ledger.specs.Seen.{LedgerView, machine_at, is_asked, asking_cmp}
-use Rattle.scp_ledger.specs.Takes.{IsMachineFor, decision_of, decided_onward, to_peers, verdict_from, RunsAt, Passes, TakesEnvelope, Decides, TakesRecord, Forwards, TakesMessage, Commands, Asks, TakesAsk, TakesCommand, Takes}
-use Rattle.scp_ledger.specs.Verdicts.{FirstOf, IsFar, BehindWindow, IsHeardAs, BehindAlready, IsOpen, link_of}
+use Rattle.scp_theorem.specs.scp_types.specs.declared.names.ConnId.{ConnId}
+use Rattle.scp_theorem.specs.scp_types.specs.declared.names.NodeId.{NodeId}
+use Rattle.scp_theorem.specs.scp_types.specs.declared.names.Seq.{Seq}
+use Rattle.scp_theorem.specs.scp_types.specs.declared.names.Slot.{Slot}
+use Rattle.scp_theorem.specs.scp_quorum.specs.QuorumTree.{QuorumTree}
+use Rattle.scp_theorem.specs.scp_quorum.specs.SharedSet.{SharedSet}
+use Rattle.scp_theorem.specs.scp_quorum.specs.Sane.{IsInRange}
+use Rattle.scp_theorem.specs.scp_driver.specs.declared.driver.Level.{Level}
+use Rattle.scp_theorem.specs.scp_driver.specs.declared.driver.Level.TheVariants.{FullyValidated}
+use Rattle.scp_theorem.specs.scp_vote.specs.Board.{kind_of_pledges}
+use Rattle.scp_theorem.specs.scp_vote.specs.declared.claim.StatementKind.TheVariants.{Nomination as Nominating}
+use Rattle.scp_theorem.specs.scp_wire.specs.Boxed.{Boxed}
+use Rattle.scp_theorem.specs.scp_wire.specs.declared.link.Command.{Command}
+use Rattle.scp_theorem.specs.scp_wire.specs.declared.link.Command.TheVariants.{Propose, Round, Timer, Tick, Ask}
+use Rattle.scp_theorem.specs.scp_wire.specs.declared.message.Message.{Message}
+use Rattle.scp_theorem.specs.scp_wire.specs.declared.message.Message.TheVariants.{Envelope, GetSet, Set, NoSet, GetRecord, Record, Records}
+use Rattle.scp_theorem.specs.scp_pending.specs.declared.ready.Ready.{Ready}
+use Rattle.scp_theorem.specs.scp_pending.specs.declared.ready.Ready.TheVariants as ready
+use Rattle.scp_theorem.specs.scp_nominate.specs.Nomination.{Nomination}
+use Rattle.scp_theorem.specs.scp_ballot.specs.Balloting.{HasBallot}
+use Rattle.scp_theorem.specs.scp_slot.specs.Slot.{SlotView, slot_view, driver_of, Begins}
+use Rattle.scp_theorem.specs.scp_slot.specs.declared.machine.SlotMachine.{SlotMachine}
+use Rattle.scp_theorem.specs.scp_slot.specs.declared.newest.Heard.{Heard as Kept}
+use Rattle.scp_theorem.specs.scp_slot.specs.declared.output.SlotInput.{SlotInput}
+use Rattle.scp_theorem.specs.scp_slot.specs.declared.output.SlotInput.TheVariants as input
+use Rattle.scp_theorem.specs.scp_slot.specs.declared.output.SlotOutput.{SlotOutput}
+use Rattle.scp_theorem.specs.scp_ledger.specs.declared.journal.Asking.{Asking}
+use Rattle.scp_theorem.specs.scp_ledger.specs.declared.journal.Decision.{Decision}
+use Rattle.scp_theorem.specs.scp_ledger.specs.declared.journal.Fate.{Fate}
+use Rattle.scp_theorem.specs.scp_ledger.specs.declared.journal.Fate.TheVariants.{Taken}
+use Rattle.scp_theorem.specs.scp_ledger.specs.declared.journal.Verdict.{Verdict}
+use Rattle.scp_theorem.specs.scp_ledger.specs.declared.journal.Verdict.TheVariants.{OldSlot, FarSlot, Already, Unasked, Idle, Fresh, Forwarded, Decided as Deciding}
+use Rattle.scp_theorem.specs.scp_ledger.specs.declared.took.CommandFate.{CommandFate}
+use Rattle.scp_theorem.specs.scp_ledger.specs.declared.took.CommandFate.TheVariants.{BadValue, ProposedBefore, Proposed, NoRoundLeft, RoundAdded, NoBallot, BallotStays, BallotMoved}
+use Rattle.scp_theorem.specs.scp_ledger.specs.declared.took.Outgoing.{Outgoing}
+use Rattle.scp_theorem.specs.scp_ledger.specs.declared.took.Took.{Took}
+use Rattle.scp_theorem.specs.scp_ledger.specs.CommandFates.{BeforeMachine, ByMachine, IsProposalFate, IsRoundFate, IsTimerFate, IsAskFate, TellsCommand, TellsFate}
+use Rattle.scp_theorem.specs.scp_ledger.specs.Decisions.{is_decided, IsLowest}
+use Rattle.scp_theorem.specs.scp_ledger.specs.Journal.{newest}
+use Rattle.scp_theorem.specs.scp_ledger.specs.Journals.{Entry}
+use Rattle.scp_theorem.specs.scp_ledger.specs.Ledger.{heard_of, IsMachineOf, FitsMachine, IsRunning}
+use Rattle.scp_theorem.specs.scp_ledger.specs.Seen.{LedgerView, machine_at, is_asked, asking_cmp}
+use Rattle.scp_theorem.specs.scp_ledger.specs.Takes.{IsMachineFor, decision_of, decided_onward, to_peers, verdict_from, RunsAt, Passes, TakesEnvelope, Decides, TakesRecord, Forwards, TakesMessage, Commands, Asks, TakesAsk, TakesCommand, Takes}
+use Rattle.scp_theorem.specs.scp_ledger.specs.Verdicts.{FirstOf, IsFar, BehindWindow, IsHeardAs, BehindAlready, IsOpen, link_of}
 use Rattle.scp_core.specs.Same.{ShowSameSlot, ShowSameMachine, said, ShowSameLedger}
 use Rattle.scp_core.proofs.same.Ones.{cases_one, some_one}
 use Rattle.scp_core.proofs.same.Nominating.{nomination_begins}

@@ -4,41 +4,41 @@ use Rattle.std.specs.Prelude.{◌⊎◌, Option, Some, None, IsSome, is_some, op
 use Rattle.std.specs.Option.{ForSome}
 use Rattle.std.specs.BTreeMap.{is_at}
 use Rattle.std.proofs.lemmas.Cmp.{eq_by_cmp_equiv}
-use Rattle.scp_types.specs.declared.names.NodeId.{NodeId}
-use Rattle.scp_quorum.specs.NodeSet.{node_cmp}
-use Rattle.scp_quorum.specs.QuorumTree.{QuorumTree}
-use Rattle.scp_quorum.specs.Sane.{IsInRange}
-use Rattle.scp_quorum.specs.SharedSet.{SharedSet as Shared}
-use Rattle.scp_envelope.specs.Laws.{NewerIsIrreflexive}
-use Rattle.scp_envelope.specs.Newer.{IsNewer, ArePledgesNewer}
-use Rattle.scp_envelope.specs.Sane.{IsSane}
-use Rattle.scp_envelope.specs.declared.statement.Envelope.{Envelope as Enveloped}
-use Rattle.scp_envelope.specs.declared.statement.Pledges.{Pledges}
-use Rattle.scp_envelope.specs.declared.statement.Statement.{Statement}
-use Rattle.scp_driver.specs.declared.driver.Level.{Level}
-use Rattle.scp_driver.specs.declared.driver.Level.TheVariants.{FullyValidated}
-use Rattle.scp_vote.specs.Board.{kind_of_pledges}
-use Rattle.scp_vote.specs.declared.claim.StatementKind.{StatementKind}
-use Rattle.scp_vote.specs.declared.claim.StatementKind.TheVariants.{Nomination as Nominating, Balloting}
-use Rattle.scp_nominate.specs.Laws.{ComingIsAFunction, HearingIsAFunction, GoAlike}
-use Rattle.scp_nominate.specs.Nomination as nominate
-use Rattle.scp_nominate.specs.Nomination.{Nomination, nomination}
-use Rattle.scp_nominate.specs.declared.nominator.Nominator.{Nominator}
-use Rattle.scp_ballot_rules.specs.Inputs.{Compose, Time}
-use Rattle.scp_ballot_rules.specs.Laws.{ComposingIsAFunction, TimingIsAFunction, InputIsAFunction}
-use Rattle.scp_slot.specs.Judged.{HasInvalid, IsBehind}
-use Rattle.scp_slot.specs.Newest.{Puts}
-use Rattle.scp_slot.specs.Slot.{SlotView, slot_view, driver_of}
-use Rattle.scp_slot.specs.Takes.{Rests, Ballots, BallotsRest, PassesOn, Nominates, Proposes, AddsRound, Times, Enters, HearsNomination, HearsBallot, HearsKind, TakesEnvelope, TakesInput, Takes, NominatesBy, Decides, ballots_given, nomination_given}
-use Rattle.scp_slot.specs.declared.machine.SlotMachine.{SlotMachine}
-use Rattle.scp_slot.specs.declared.newest.Heard.{Heard as Kept}
-use Rattle.scp_slot.specs.declared.output.SlotInput.{SlotInput}
-use Rattle.scp_slot.specs.declared.output.SlotInput.TheVariants.{Propose, Round, Timer, Envelope}
-use Rattle.scp_slot.specs.declared.output.SlotOutput.{SlotOutput}
-use Rattle.scp_slot.specs.declared.output.Verdict.{Verdict}
-use Rattle.scp_slot.specs.declared.output.Verdict.TheVariants.{Fresh, Stale, Own, BadStatement, BadValue, Idle}
-use Rattle.scp_ledger.specs.Journal.{Heard}
-use Rattle.scp_ledger.specs.Ledger.{heard_of, heard_at}
+use Rattle.scp_theorem.specs.scp_types.specs.declared.names.NodeId.{NodeId}
+use Rattle.scp_theorem.specs.scp_quorum.specs.NodeSet.{node_cmp}
+use Rattle.scp_theorem.specs.scp_quorum.specs.QuorumTree.{QuorumTree}
+use Rattle.scp_theorem.specs.scp_quorum.specs.Sane.{IsInRange}
+use Rattle.scp_theorem.specs.scp_quorum.specs.SharedSet.{SharedSet as Shared}
+use Rattle.scp_theorem.specs.scp_envelope.specs.Laws.{NewerIsIrreflexive}
+use Rattle.scp_theorem.specs.scp_envelope.specs.Newer.{IsNewer, ArePledgesNewer}
+use Rattle.scp_theorem.specs.scp_envelope.specs.Sane.{IsSane}
+use Rattle.scp_theorem.specs.scp_envelope.specs.declared.statement.Envelope.{Envelope as Enveloped}
+use Rattle.scp_theorem.specs.scp_envelope.specs.declared.statement.Pledges.{Pledges}
+use Rattle.scp_theorem.specs.scp_envelope.specs.declared.statement.Statement.{Statement}
+use Rattle.scp_theorem.specs.scp_driver.specs.declared.driver.Level.{Level}
+use Rattle.scp_theorem.specs.scp_driver.specs.declared.driver.Level.TheVariants.{FullyValidated}
+use Rattle.scp_theorem.specs.scp_vote.specs.Board.{kind_of_pledges}
+use Rattle.scp_theorem.specs.scp_vote.specs.declared.claim.StatementKind.{StatementKind}
+use Rattle.scp_theorem.specs.scp_vote.specs.declared.claim.StatementKind.TheVariants.{Nomination as Nominating, Balloting}
+use Rattle.scp_theorem.specs.scp_nominate.specs.Laws.{ComingIsAFunction, HearingIsAFunction, GoAlike}
+use Rattle.scp_theorem.specs.scp_nominate.specs.Nomination as nominate
+use Rattle.scp_theorem.specs.scp_nominate.specs.Nomination.{Nomination, nomination}
+use Rattle.scp_theorem.specs.scp_nominate.specs.declared.nominator.Nominator.{Nominator}
+use Rattle.scp_theorem.specs.scp_ballot_rules.specs.Inputs.{Compose, Time}
+use Rattle.scp_theorem.specs.scp_ballot_rules.specs.Laws.{ComposingIsAFunction, TimingIsAFunction, InputIsAFunction}
+use Rattle.scp_theorem.specs.scp_slot.specs.Judged.{HasInvalid, IsBehind}
+use Rattle.scp_theorem.specs.scp_slot.specs.Newest.{Puts}
+use Rattle.scp_theorem.specs.scp_slot.specs.Slot.{SlotView, slot_view, driver_of}
+use Rattle.scp_theorem.specs.scp_slot.specs.Takes.{Rests, Ballots, BallotsRest, PassesOn, Nominates, Proposes, AddsRound, Times, Enters, HearsNomination, HearsBallot, HearsKind, TakesEnvelope, TakesInput, Takes, NominatesBy, Decides, ballots_given, nomination_given}
+use Rattle.scp_theorem.specs.scp_slot.specs.declared.machine.SlotMachine.{SlotMachine}
+use Rattle.scp_theorem.specs.scp_slot.specs.declared.newest.Heard.{Heard as Kept}
+use Rattle.scp_theorem.specs.scp_slot.specs.declared.output.SlotInput.{SlotInput}
+use Rattle.scp_theorem.specs.scp_slot.specs.declared.output.SlotInput.TheVariants.{Propose, Round, Timer, Envelope}
+use Rattle.scp_theorem.specs.scp_slot.specs.declared.output.SlotOutput.{SlotOutput}
+use Rattle.scp_theorem.specs.scp_slot.specs.declared.output.Verdict.{Verdict}
+use Rattle.scp_theorem.specs.scp_slot.specs.declared.output.Verdict.TheVariants.{Fresh, Stale, Own, BadStatement, BadValue, Idle}
+use Rattle.scp_theorem.specs.scp_ledger.specs.Journal.{Heard}
+use Rattle.scp_theorem.specs.scp_ledger.specs.Ledger.{heard_of, heard_at}
 use Rattle.scp_core.specs.Same.{ShowSameSlot}
 use Rattle.scp_core.proofs.same.Ones.{cases_one, node_order}
 use Rattle.scp_core.proofs.same.Nominating.{statement_one, composite_one}

@@ -3,25 +3,25 @@ use Rattle.std.proofs.Common.{◌≡◌, ◌≢◌, ℕ, ◌+◌, ◌≤◌, Boo
 use Rattle.std.specs.Prelude.{◌⊎◌, Option, None, IsSome, option_to_list, map, flat_map, slice_get}
 use Rattle.std.proofs.lemmas.List.{append-nil, length-append, length-map}
 use Rattle.std.proofs.lemmas.Grind.{flat_map-append}
-use Rattle.scp_driver.specs.Driver.{Says}
-use Rattle.scp_quorum.specs.Sane.{IsInRange}
-use Rattle.scp_wire.specs.declared.message.Message.{Message}
-use Rattle.scp_pending.specs.declared.ready.Ready.{Ready}
-use Rattle.scp_pending.specs.declared.ready.Ready.TheVariants as ready
-use Rattle.scp_ledger.specs.Journals.{Entry, entry_in, entry_of, JournalsPass}
-use Rattle.scp_ledger.specs.Seen.{LedgerView}
-use Rattle.scp_ledger.specs.By.{TakesBy, TellsBy, RunsBy}
-use Rattle.scp_ledger.specs.Ledger.{IsLedger}
-use Rattle.scp_ledger.specs.Onwards.{KeepsWindow, WindowIsKept}
-use Rattle.scp_ledger.specs.Takes.{adds_entry}
-use Rattle.scp_ledger.specs.declared.journal.Decision.{Decision}
-use Rattle.scp_ledger.specs.declared.took.Onward.{Onward}
-use Rattle.scp_ledger.specs.declared.took.Took.{Took}
-use Rattle.scp_ledger.specs.Decisions.{AreInWindow}
-use Rattle.scp_apply.specs.Applier.{ApplierView, CanTake}
-use Rattle.scp_apply.specs.Applier.{Takes as ApplierTakes}
-use Rattle.scp_apply.specs.Applies.{ApplierKeepsUp}
-use Rattle.scp_apply.specs.Laws.{ShowTheSame, ApplyingIsAFunction}
+use Rattle.scp_theorem.specs.scp_driver.specs.Driver.{Says}
+use Rattle.scp_theorem.specs.scp_quorum.specs.Sane.{IsInRange}
+use Rattle.scp_theorem.specs.scp_wire.specs.declared.message.Message.{Message}
+use Rattle.scp_theorem.specs.scp_pending.specs.declared.ready.Ready.{Ready}
+use Rattle.scp_theorem.specs.scp_pending.specs.declared.ready.Ready.TheVariants as ready
+use Rattle.scp_theorem.specs.scp_ledger.specs.Journals.{Entry, entry_in, entry_of, JournalsPass}
+use Rattle.scp_theorem.specs.scp_ledger.specs.Seen.{LedgerView}
+use Rattle.scp_theorem.specs.scp_ledger.specs.By.{TakesBy, TellsBy, RunsBy}
+use Rattle.scp_theorem.specs.scp_ledger.specs.Ledger.{IsLedger}
+use Rattle.scp_theorem.specs.scp_ledger.specs.Onwards.{KeepsWindow, WindowIsKept}
+use Rattle.scp_theorem.specs.scp_ledger.specs.Takes.{adds_entry}
+use Rattle.scp_theorem.specs.scp_ledger.specs.declared.journal.Decision.{Decision}
+use Rattle.scp_theorem.specs.scp_ledger.specs.declared.took.Onward.{Onward}
+use Rattle.scp_theorem.specs.scp_ledger.specs.declared.took.Took.{Took}
+use Rattle.scp_theorem.specs.scp_ledger.specs.Decisions.{AreInWindow}
+use Rattle.scp_theorem.specs.scp_apply.specs.Applier.{ApplierView, CanTake}
+use Rattle.scp_theorem.specs.scp_apply.specs.Applier.{Takes as ApplierTakes}
+use Rattle.scp_theorem.specs.scp_apply.specs.Applies.{ApplierKeepsUp}
+use Rattle.scp_theorem.specs.scp_apply.specs.Laws.{ShowTheSame, ApplyingIsAFunction}
 use Rattle.scp_core.specs.Flow.{Flows}
 use Rattle.scp_core.specs.History.{Past}
 use Rattle.scp_core.specs.Node.{LinkView, NodeView, said_in, HandsEach, Hands, SlotTakes, ApplyTakes, Step, FillsJournal, Fails, Keeps, life_of, room_of, room_at}
@@ -253,7 +253,7 @@ module _ {D : Type 0} (says : Says D) where
     in_window : (x : Onward) (rest : List Onward) → v.decided ≡ x ∷ rest → KeepsWindow v.applier.first (f.applied ++ x ∷ [])
     in_window x rest e =
         let all : f.onwards ≡ (f.applied ++ x ∷ []) ++ (rest ++ option_to_list v.slot_hand) = f.decided ∙ ap (λ (os : List Onward). f.applied ++ (os ++ option_to_list v.slot_hand)) e ∙ sym (append_assoc f.applied (x ∷ []) (rest ++ option_to_list v.slot_hand)) in
-        subst (λ (first : ℕ). KeepsWindow first (f.applied ++ x ∷ [])) (sym f.first.1) (law.window.begins v.ledger.first (f.applied ++ x ∷ []) (rest ++ option_to_list v.slot_hand) (subst (KeepsWindow v.ledger.first) all (subst (λ (ds : List Decision). AreInWindow v.ledger.first [] ds) (sym f.journal.decided) f.journal.known.placed)))
+        subst (λ (first : ℕ). KeepsWindow first (f.applied ++ x ∷ [])) (sym f.first) (law.window.begins v.ledger.first (f.applied ++ x ∷ []) (rest ++ option_to_list v.slot_hand) (subst (KeepsWindow v.ledger.first) all (subst (λ (ds : List Decision). AreInWindow v.ledger.first [] ds) (sym f.journal.decided) f.journal.known.placed)))
 
     apply_moves : reply ≡ other → ApplyTakes v new → ApplyTakes u there → BothStep reply other new there
     apply_moves same x y =

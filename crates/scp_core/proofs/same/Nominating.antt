@@ -2,16 +2,16 @@
 use Rattle.std.proofs.Common.{◌≡◌, ◌≢◌, ℕ, List, sym, ◌∙◌, ap, subst, cond}
 use Rattle.std.specs.Prelude.{Option, Some}
 use Rattle.std.specs.BTreeMap.{is_at}
-use Rattle.scp_types.specs.declared.names.NodeId.{NodeId}
-use Rattle.scp_quorum.specs.NodeSet.{node_cmp}
-use Rattle.scp_quorum.specs.QuorumTree.{QuorumTree}
-use Rattle.scp_envelope.specs.declared.statement.Envelope.{Envelope}
-use Rattle.scp_envelope.specs.declared.statement.Pledges.{Pledges}
-use Rattle.scp_vote.specs.Board.{Seen, PutsCounted}
-use Rattle.scp_nominate.specs.Given.{IsWorth, GivesComposite}
-use Rattle.scp_nominate.specs.Nomination.{Nomination, own, IsOwnEnvelope, Advances, Begins}
-use Rattle.scp_nominate.specs.Turns.{AreInTurn}
-use Rattle.scp_nominate.specs.declared.nominated.Nominated.{Nominated}
+use Rattle.scp_theorem.specs.scp_types.specs.declared.names.NodeId.{NodeId}
+use Rattle.scp_theorem.specs.scp_quorum.specs.NodeSet.{node_cmp}
+use Rattle.scp_theorem.specs.scp_quorum.specs.QuorumTree.{QuorumTree}
+use Rattle.scp_theorem.specs.scp_envelope.specs.declared.statement.Envelope.{Envelope}
+use Rattle.scp_theorem.specs.scp_envelope.specs.declared.statement.Pledges.{Pledges}
+use Rattle.scp_theorem.specs.scp_vote.specs.Board.{Seen, PutsCounted}
+use Rattle.scp_theorem.specs.scp_nominate.specs.Given.{IsWorth, GivesComposite}
+use Rattle.scp_theorem.specs.scp_nominate.specs.Nomination.{Nomination, own, IsOwnEnvelope, Advances, Begins}
+use Rattle.scp_theorem.specs.scp_nominate.specs.Turns.{AreInTurn}
+use Rattle.scp_theorem.specs.scp_nominate.specs.declared.nominated.Nominated.{Nominated}
 use Rattle.scp_core.proofs.same.Ones.{option_one, nodes_one}
 
 pub seen_one : (b c : Seen) → b.me ≡ c.me → b.local ≡ c.local → ((v : NodeId) → b.statement v ≡ c.statement v) → ((v : NodeId) → b.counted v ≡ c.counted v) → b ≡ c

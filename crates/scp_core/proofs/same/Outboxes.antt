@@ -1,14 +1,14 @@
 -- What is put into outboxes, and what they give, is one.
 use Rattle.std.proofs.Common.{◌≡◌, ℕ, List, [], ◌∷◌, length, suc, refl, sym, ◌∙◌, ap, subst, inl, inr, arith}
 use Rattle.std.specs.Prelude.{Option, Some, None, slice_get, slice_set, position, MatchOption}
-use Rattle.scp_envelope.specs.Newer.{IsNewer}
-use Rattle.scp_wire.specs.Boxed.{Boxed}
-use Rattle.scp_wire.specs.declared.message.Message.{Message}
-use Rattle.scp_wire.specs.declared.message.Message.TheVariants.{Envelope, GetSet, Set, NoSet, GetRecord, Record, Records}
-use Rattle.scp_outbox.specs.Outbox.{OutboxView, are_alike, Replaces, GoesLast, Takes, counted, Puts, given}
-use Rattle.scp_outbox.specs.declared.mark.Out.{Out}
-use Rattle.scp_outbox.specs.declared.mark.Out.TheVariants as out
-use Rattle.scp_outbox.specs.Handing.{PutsAll, HandsOut, GivesNext, GivesThere}
+use Rattle.scp_theorem.specs.scp_envelope.specs.Newer.{IsNewer}
+use Rattle.scp_theorem.specs.scp_wire.specs.Boxed.{Boxed}
+use Rattle.scp_theorem.specs.scp_wire.specs.declared.message.Message.{Message}
+use Rattle.scp_theorem.specs.scp_wire.specs.declared.message.Message.TheVariants.{Envelope, GetSet, Set, NoSet, GetRecord, Record, Records}
+use Rattle.scp_theorem.specs.scp_outbox.specs.Outbox.{OutboxView, are_alike, Replaces, GoesLast, Takes, counted, Puts, given}
+use Rattle.scp_theorem.specs.scp_outbox.specs.declared.mark.Out.{Out}
+use Rattle.scp_theorem.specs.scp_outbox.specs.declared.mark.Out.TheVariants as out
+use Rattle.scp_theorem.specs.scp_outbox.specs.Handing.{PutsAll, HandsOut, GivesNext, GivesThere}
 use Rattle.scp_core.proofs.same.Ones.{some_one}
 
 replaces_one : (old : List Boxed) (place : ℕ) (came : Boxed) (a b : List Boxed) (m n : ℕ) → Replaces old place came a m → Replaces old place came b n → (a ≡ b) × (m ≡ n)

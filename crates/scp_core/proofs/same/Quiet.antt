@@ -2,19 +2,19 @@
 use Rattle.std.proofs.Common.{◌≡◌, ◌≢◌, ℕ, ◌+◌, Bool, true, false, List, [], ◌∷◌, ◌++◌, length, refl, sym, ◌∙◌, ap, subst, eq-eqb, arith}
 use Rattle.std.specs.Prelude.{Option, Some, None, IsSome, is_some, nat_eq, slice_get, slice_set}
 use Rattle.std.proofs.lemmas.Bool.{ne_eqb}
-use Rattle.scp_driver.specs.Driver.{Says}
-use Rattle.scp_wire.specs.declared.link.Command.{Command}
-use Rattle.scp_wire.specs.declared.link.Command.TheVariants.{Propose, Round, Timer, Tick, Ask}
-use Rattle.scp_wire.specs.declared.link.Inbound.{Inbound}
-use Rattle.scp_wire.specs.declared.link.Inbound.TheVariants as inbound
-use Rattle.scp_wire.specs.declared.link.LinkItem.{LinkItem}
-use Rattle.scp_wire.specs.declared.link.LinkItem.TheVariants as item
-use Rattle.scp_wire.specs.Connections.{conn_at}
-use Rattle.scp_wire.specs.LinkReading.{reading, after}
-use Rattle.scp_pending.specs.declared.ready.Ready.{Ready}
-use Rattle.scp_ledger.specs.Seen.{LedgerView}
-use Rattle.scp_ledger.specs.declared.took.Onward.{Onward}
-use Rattle.scp_apply.specs.Applier.{ApplierView}
+use Rattle.scp_theorem.specs.scp_driver.specs.Driver.{Says}
+use Rattle.scp_theorem.specs.scp_wire.specs.declared.link.Command.{Command}
+use Rattle.scp_theorem.specs.scp_wire.specs.declared.link.Command.TheVariants.{Propose, Round, Timer, Tick, Ask}
+use Rattle.scp_theorem.specs.scp_wire.specs.declared.link.Inbound.{Inbound}
+use Rattle.scp_theorem.specs.scp_wire.specs.declared.link.Inbound.TheVariants as inbound
+use Rattle.scp_theorem.specs.scp_wire.specs.declared.link.LinkItem.{LinkItem}
+use Rattle.scp_theorem.specs.scp_wire.specs.declared.link.LinkItem.TheVariants as item
+use Rattle.scp_theorem.specs.scp_wire.specs.Connections.{conn_at}
+use Rattle.scp_theorem.specs.scp_wire.specs.LinkReading.{reading, after}
+use Rattle.scp_theorem.specs.scp_pending.specs.declared.ready.Ready.{Ready}
+use Rattle.scp_theorem.specs.scp_ledger.specs.Seen.{LedgerView}
+use Rattle.scp_theorem.specs.scp_ledger.specs.declared.took.Onward.{Onward}
+use Rattle.scp_theorem.specs.scp_apply.specs.Applier.{ApplierView}
 use Rattle.scp_theorem.proofs.Basics.{some_there}
 use Rattle.scp_core.specs.History.{peer_at}
 use Rattle.scp_core.specs.Node.{LinkView, NodeView, with_link, HasLink, Step}

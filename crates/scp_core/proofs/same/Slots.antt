@@ -2,17 +2,17 @@
 use Rattle.std.proofs.Common.{◌≡◌, ◌≢◌, ℕ, List, sym, ◌∙◌, subst}
 use Rattle.std.specs.Prelude.{Option, option_map}
 use Rattle.std.specs.Option.{ForSome}
-use Rattle.scp_types.specs.declared.names.NodeId.{NodeId}
-use Rattle.scp_quorum.specs.Sane.{IsInRange}
-use Rattle.scp_driver.specs.declared.driver.Level.{Level}
-use Rattle.scp_vote.specs.declared.claim.StatementKind.TheVariants.{Nomination as Nominating}
-use Rattle.scp_nominate.specs.Nomination.{Nomination}
-use Rattle.scp_slot.specs.Slot.{SlotView, slot_view, driver_of}
-use Rattle.scp_slot.specs.Takes.{Takes, Decides, NominatesBy}
-use Rattle.scp_slot.specs.declared.machine.SlotMachine.{SlotMachine}
-use Rattle.scp_slot.specs.declared.newest.Heard.{Heard as Kept}
-use Rattle.scp_slot.specs.declared.output.SlotInput.{SlotInput}
-use Rattle.scp_slot.specs.declared.output.SlotOutput.{SlotOutput}
+use Rattle.scp_theorem.specs.scp_types.specs.declared.names.NodeId.{NodeId}
+use Rattle.scp_theorem.specs.scp_quorum.specs.Sane.{IsInRange}
+use Rattle.scp_theorem.specs.scp_driver.specs.declared.driver.Level.{Level}
+use Rattle.scp_theorem.specs.scp_vote.specs.declared.claim.StatementKind.TheVariants.{Nomination as Nominating}
+use Rattle.scp_theorem.specs.scp_nominate.specs.Nomination.{Nomination}
+use Rattle.scp_theorem.specs.scp_slot.specs.Slot.{SlotView, slot_view, driver_of}
+use Rattle.scp_theorem.specs.scp_slot.specs.Takes.{Takes, Decides, NominatesBy}
+use Rattle.scp_theorem.specs.scp_slot.specs.declared.machine.SlotMachine.{SlotMachine}
+use Rattle.scp_theorem.specs.scp_slot.specs.declared.newest.Heard.{Heard as Kept}
+use Rattle.scp_theorem.specs.scp_slot.specs.declared.output.SlotInput.{SlotInput}
+use Rattle.scp_theorem.specs.scp_slot.specs.declared.output.SlotOutput.{SlotOutput}
 use Rattle.scp_core.specs.Same.{ShowSameSlot}
 use Rattle.scp_core.proofs.same.Balloting.{Ascends}
 use Rattle.scp_core.proofs.same.Machines.{SlotLaws, Same, SameInput, with_newest, takes_one}

@@ -2,22 +2,22 @@
 use Rattle.std.proofs.Common.{◌≡◌, ◌≢◌, ℕ, Bool, true, false, List, [], ◌∷◌, ◌++◌, refl, sym, ◌∙◌, ap, subst, inl, inr, append_assoc}
 use Rattle.std.specs.Prelude.{◌⊎◌, Option, Some, None, IsSome, option_to_list, slice_get}
 use Rattle.std.proofs.lemmas.List.{append-nil}
-use Rattle.scp_driver.specs.Driver.{Says}
-use Rattle.scp_xdr.specs.Kind.{spelling}
-use Rattle.scp_wire.specs.Message.{message_kind, message_value}
-use Rattle.scp_wire.specs.declared.link.Inbound.{Inbound}
-use Rattle.scp_wire.specs.declared.message.Message.{Message}
-use Rattle.scp_outbox.specs.Outbox.{OutboxView}
-use Rattle.scp_outbox.specs.Handing.{GivesNext}
-use Rattle.scp_pending.specs.declared.ready.Ready.{Ready}
-use Rattle.scp_types.specs.declared.names.NodeId.{NodeId}
-use Rattle.scp_pending.specs.Passes.{Passes}
-use Rattle.scp_pending.specs.Pends.{Pends}
-use Rattle.scp_pending.specs.Rules.{PendingView, Settled, taken_in, released_by, fresh, reply as reply_to}
-use Rattle.scp_ledger.specs.Seen.{LedgerView}
-use Rattle.scp_ledger.specs.declared.took.Outgoing.{Outgoing}
-use Rattle.scp_ledger.specs.declared.took.Outgoing.TheVariants.{To}
-use Rattle.scp_apply.specs.Applier.{ApplierView}
+use Rattle.scp_theorem.specs.scp_driver.specs.Driver.{Says}
+use Rattle.scp_theorem.specs.scp_xdr.specs.Kind.{spelling}
+use Rattle.scp_theorem.specs.scp_wire.specs.Message.{message_kind, message_value}
+use Rattle.scp_theorem.specs.scp_wire.specs.declared.link.Inbound.{Inbound}
+use Rattle.scp_theorem.specs.scp_wire.specs.declared.message.Message.{Message}
+use Rattle.scp_theorem.specs.scp_outbox.specs.Outbox.{OutboxView}
+use Rattle.scp_theorem.specs.scp_outbox.specs.Handing.{GivesNext}
+use Rattle.scp_theorem.specs.scp_pending.specs.declared.ready.Ready.{Ready}
+use Rattle.scp_theorem.specs.scp_types.specs.declared.names.NodeId.{NodeId}
+use Rattle.scp_theorem.specs.scp_pending.specs.Passes.{Passes}
+use Rattle.scp_theorem.specs.scp_pending.specs.Pends.{Pends}
+use Rattle.scp_theorem.specs.scp_pending.specs.Rules.{PendingView, Settled, taken_in, released_by, fresh, reply as reply_to}
+use Rattle.scp_theorem.specs.scp_ledger.specs.Seen.{LedgerView}
+use Rattle.scp_theorem.specs.scp_ledger.specs.declared.took.Outgoing.{Outgoing}
+use Rattle.scp_theorem.specs.scp_ledger.specs.declared.took.Outgoing.TheVariants.{To}
+use Rattle.scp_theorem.specs.scp_apply.specs.Applier.{ApplierView}
 use Rattle.scp_core.specs.Flow.{Flows}
 use Rattle.scp_core.specs.History.{Past}
 use Rattle.scp_theorem.specs.Handed.{handed_by}

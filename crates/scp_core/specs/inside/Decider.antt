@@ -1,30 +1,31 @@
 -- The slot stage, the queue after it and the applier, as the code keeps them; nothing here need be believed.
 use Rattle.std.specs.Prelude.{ℕ, ◌≡◌, ◌≢◌, Bool, true, false, List, [], ◌∷◌, ◌++◌, Option, Some, None, length, option_to_list, Result, Ok, Err}
 use Rattle.std.specs.List.Sorted.{IsPermutation}
-use Rattle.scp_driver.specs.Driver.{Says}
-use Rattle.scp_types.specs.declared.fault.Fault.{Fault}
-use Rattle.scp_types.specs.declared.fault.Fault.TheVariants as faults
-use Rattle.scp_types.specs.declared.names.NodeId.{NodeId}
-use Rattle.scp_quorum.specs.QuorumTree.{QuorumTree}
-use Rattle.scp_envelope.specs.declared.statement.Envelope.{Envelope}
-use Rattle.scp_wire.specs.declared.message.Message.{Message}
-use Rattle.scp_pending.specs.declared.ready.Ready.{Ready}
-use Rattle.scp_ledger.specs.declared.journal.Decision.{Decision}
-use Rattle.scp_ledger.specs.declared.took.CommandFate.{CommandFate}
-use Rattle.scp_ledger.specs.declared.took.Onward.{Onward}
-use Rattle.scp_ledger.specs.declared.took.Took.{Took}
-use Rattle.scp_ledger.specs.Ledger.{IsLedger}
-use Rattle.scp_ledger.specs.Onwards.{decisions_on}
-use Rattle.scp_ledger.specs.Runs.{nothing_taken}
-use Rattle.scp_ledger.specs.Takes.{adds_entry}
-use Rattle.scp_apply.specs.Applier.{ApplierView, IsApplier, IsRunning}
-use Rattle.scp_apply.specs.Applier.{Takes as ApplierTakes}
-use Rattle.scp_outbox.specs.Outbox.{OutboxView}
+use Rattle.scp_theorem.specs.scp_driver.specs.Driver.{Says}
+use Rattle.scp_theorem.specs.scp_types.specs.declared.fault.Fault.{Fault}
+use Rattle.scp_theorem.specs.scp_types.specs.declared.fault.Fault.TheVariants as faults
+use Rattle.scp_theorem.specs.scp_types.specs.declared.names.NodeId.{NodeId}
+use Rattle.scp_theorem.specs.scp_quorum.specs.QuorumTree.{QuorumTree}
+use Rattle.scp_theorem.specs.scp_envelope.specs.declared.statement.Envelope.{Envelope}
+use Rattle.scp_theorem.specs.scp_wire.specs.declared.message.Message.{Message}
+use Rattle.scp_theorem.specs.scp_pending.specs.declared.ready.Ready.{Ready}
+use Rattle.scp_theorem.specs.scp_ledger.specs.declared.journal.Decision.{Decision}
+use Rattle.scp_theorem.specs.scp_ledger.specs.declared.took.CommandFate.{CommandFate}
+use Rattle.scp_theorem.specs.scp_ledger.specs.declared.took.Onward.{Onward}
+use Rattle.scp_theorem.specs.scp_ledger.specs.declared.took.Took.{Took}
+use Rattle.scp_theorem.specs.scp_ledger.specs.Ledger.{IsLedger}
+use Rattle.scp_theorem.specs.scp_ledger.specs.Onwards.{decisions_on}
+use Rattle.scp_theorem.specs.scp_ledger.specs.Runs.{nothing_taken}
+use Rattle.scp_theorem.specs.scp_ledger.specs.Takes.{adds_entry}
+use Rattle.scp_theorem.specs.scp_apply.specs.Applier.{ApplierView, IsApplier, IsRunning}
+use Rattle.scp_theorem.specs.scp_apply.specs.Applier.{Takes as ApplierTakes}
+use Rattle.scp_theorem.specs.scp_outbox.specs.Outbox.{OutboxView}
+use Rattle.scp_theorem.specs.Handed.{nothing_applied}
 use Rattle.scp_core.specs.declared.event.Reply.{Reply}
 use Rattle.scp_core.specs.declared.event.Reply.TheVariants.{Blocked, Idle, Moved, JournalFull, NoMemory}
 use Rattle.scp_core.specs.Node.{HandsEach, said_in}
-use Rattle.scp_ledger.specs.Seen.{LedgerView}
-use Rattle.scp_ledger.specs.By.{TakesBy, TellsBy, RunsBy}
+use Rattle.scp_theorem.specs.scp_ledger.specs.Seen.{LedgerView}
+use Rattle.scp_theorem.specs.scp_ledger.specs.By.{TakesBy, TellsBy, RunsBy}
 
 pub record DeciderView (D : Type 0) : Type 0 where
   pub failed : Bool
@@ -38,17 +39,17 @@ pub record DeciderView (D : Type 0) : Type 0 where
   pub applier : ApplierView
 
 module _ {D : Type 0} where
-  abbrev pub new_decider : NodeId → QuorumTree → D → List NodeId → ℕ → DeciderView D
-  new_decider me local driver peers room = record {
+  abbrev pub new_decider : NodeId → QuorumTree → D → List NodeId → ℕ → ℕ → List ℕ → DeciderView D
+  new_decider me local driver peers room first base = record {
     failed = false;
     fault = None;
-    ledger = nothing_taken me local driver peers 1;
+    ledger = nothing_taken me local driver peers first;
     hand = None;
     last_command = None;
     last_said = [];
     queue = [];
     room = room;
-    applier = record { first = 1; failed = false; applied = []; buffer = [] };
+    applier = nothing_applied first base;
   }
 
   abbrev pub fail : DeciderView D → DeciderView D

@@ -1,9 +1,9 @@
 -- What a drain does to the outboxes; nothing here need be believed.
 use Rattle.std.specs.Prelude.{ℕ, ◌≡◌, List, Some, None, nat_lt, slice_get, if◌then◌else◌}
-use Rattle.scp_wire.specs.declared.message.Message.{Message}
-use Rattle.scp_wire.specs.Message.{message_value, SpellsMessage}
-use Rattle.scp_outbox.specs.Outbox.{OutboxView}
-use Rattle.scp_outbox.specs.Handing.{GivesThere}
+use Rattle.scp_theorem.specs.scp_wire.specs.declared.message.Message.{Message}
+use Rattle.scp_theorem.specs.scp_wire.specs.Message.{message_value, SpellsMessage}
+use Rattle.scp_theorem.specs.scp_outbox.specs.Outbox.{OutboxView}
+use Rattle.scp_theorem.specs.scp_outbox.specs.Handing.{GivesThere}
 use Rattle.scp_core.specs.declared.event.Reply.{Reply}
 use Rattle.scp_core.specs.declared.event.Reply.TheVariants.{Idle, Sent, NoLink, NoMemory}
 

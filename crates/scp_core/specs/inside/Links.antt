@@ -1,11 +1,11 @@
 -- What one event does to one link; nothing here need be believed.
 use Rattle.std.specs.Prelude.{ℕ, ◌+◌, ◌<◌, ◌≡◌, ◌≢◌, ◌⊎◌, Bool, true, false, List, [], ◌∷◌, ◌++◌, Some, None, length, slice_get, slice_set, Result, Ok, Err}
-use Rattle.scp_types.specs.declared.names.NodeId.{NodeId}
-use Rattle.scp_wire.specs.declared.link.LinkItem.{LinkItem}
-use Rattle.scp_wire.specs.declared.link.LinkItem.TheVariants as item
-use Rattle.scp_wire.specs.declared.link.Inbound.{Inbound}
-use Rattle.scp_wire.specs.LinkReading.{reading, after}
-use Rattle.scp_wire.specs.Connections.{conn_at}
+use Rattle.scp_theorem.specs.scp_types.specs.declared.names.NodeId.{NodeId}
+use Rattle.scp_theorem.specs.scp_wire.specs.declared.link.LinkItem.{LinkItem}
+use Rattle.scp_theorem.specs.scp_wire.specs.declared.link.LinkItem.TheVariants as item
+use Rattle.scp_theorem.specs.scp_wire.specs.declared.link.Inbound.{Inbound}
+use Rattle.scp_theorem.specs.scp_wire.specs.LinkReading.{reading, after}
+use Rattle.scp_theorem.specs.scp_wire.specs.Connections.{conn_at}
 use Rattle.scp_core.specs.declared.event.Reply.{Reply}
 use Rattle.scp_core.specs.declared.event.Reply.TheVariants.{AlreadyOpen, LivesSpent, NotOpen, Full, Accepted, Blocked, Idle, Moved, NoLink, NoMemory}
 use Rattle.scp_core.specs.Node.{LinkView, is_full, room_in}

@@ -1,14 +1,14 @@
 -- The slot stage as the code keeps it; nothing here need be believed.
 use Rattle.std.specs.Prelude.{◌≡◌, true, List, Option, Some, None, take}
-use Rattle.scp_driver.specs.Driver.{Says}
-use Rattle.scp_outbox.specs.Outbox.{OutboxView}
-use Rattle.scp_pending.specs.declared.ready.Ready.{Ready}
-use Rattle.scp_ledger.specs.declared.took.Took.{Took}
-use Rattle.scp_ledger.specs.Ledger.{IsLedger}
+use Rattle.scp_theorem.specs.scp_driver.specs.Driver.{Says}
+use Rattle.scp_theorem.specs.scp_outbox.specs.Outbox.{OutboxView}
+use Rattle.scp_theorem.specs.scp_pending.specs.declared.ready.Ready.{Ready}
+use Rattle.scp_theorem.specs.scp_ledger.specs.declared.took.Took.{Took}
+use Rattle.scp_theorem.specs.scp_ledger.specs.Ledger.{IsLedger}
 use Rattle.scp_core.specs.declared.stage.Shown.{Shown}
 use Rattle.scp_core.specs.declared.stage.Given.{Given}
-use Rattle.scp_ledger.specs.Seen.{LedgerView}
-use Rattle.scp_ledger.specs.By.{TakesBy, TellsBy, RunsBy}
+use Rattle.scp_theorem.specs.scp_ledger.specs.Seen.{LedgerView}
+use Rattle.scp_theorem.specs.scp_ledger.specs.By.{TakesBy, TellsBy, RunsBy}
 use Rattle.scp_core.specs.Node.{HandsEach, said_in}
 
 module _ {D : Type 0} where

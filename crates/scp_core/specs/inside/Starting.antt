@@ -1,22 +1,23 @@
 -- What a new node is, and what one event of a run does; nothing here need be believed.
-use Rattle.std.specs.Prelude.{◌≡◌, true, false, List, [], ◌∷◌, ◌++◌, None, length, replicate}
-use Rattle.scp_driver.specs.Driver.{Says}
-use Rattle.scp_pending.specs.Pends.{Pends}
-use Rattle.scp_pending.specs.Rules.{fresh}
-use Rattle.scp_ledger.specs.Ledger.{IsLedger}
-use Rattle.scp_ledger.specs.Runs.{nothing_taken}
-use Rattle.scp_outbox.specs.Handing.{empty_outbox}
+use Rattle.std.specs.Prelude.{ℕ, ◌≡◌, true, false, List, [], ◌∷◌, ◌++◌, None, length, replicate}
+use Rattle.scp_theorem.specs.scp_driver.specs.Driver.{Says}
+use Rattle.scp_theorem.specs.scp_pending.specs.Pends.{Pends}
+use Rattle.scp_theorem.specs.scp_pending.specs.Rules.{fresh}
+use Rattle.scp_theorem.specs.scp_ledger.specs.Ledger.{IsLedger}
+use Rattle.scp_theorem.specs.scp_ledger.specs.Runs.{nothing_taken}
+use Rattle.scp_theorem.specs.scp_outbox.specs.Handing.{empty_outbox}
+use Rattle.scp_theorem.specs.Handed.{nothing_applied}
 use Rattle.scp_core.specs.declared.event.Event.{Event}
 use Rattle.scp_core.specs.declared.event.Reply.{Reply}
 use Rattle.scp_core.specs.Config.{are_apart}
 use Rattle.scp_core.specs.History.{Exchange}
 use Rattle.scp_core.specs.Theorem.{LedgerTheorem}
-use Rattle.scp_apply.specs.Applies.{Applies}
-use Rattle.scp_ledger.specs.By.{RunsBy}
+use Rattle.scp_theorem.specs.scp_apply.specs.Applies.{Applies}
+use Rattle.scp_theorem.specs.scp_ledger.specs.By.{RunsBy}
 use Rattle.scp_core.specs.Node.{NodeView, new_link}
 
 module _ {D : Type 0} (says : Says D) where
-  pub record IsNew (v : NodeView D) : Type 0 where
+  pub record IsNew (first : ℕ) (base : List ℕ) (v : NodeView D) : Type 0 where
     pub apart : are_apart v.config.peers ≡ true
     pub runs : v.failed ≡ false
     pub fault : v.fault ≡ None
@@ -28,13 +29,13 @@ module _ {D : Type 0} (says : Says D) where
     pub settled : v.pending.settled ≡ fresh v.config.me v.config.peers v.config.set
     pub leaving : v.pending.leaving ≡ []
     pub pending : Pends v.config.me v.config.peers [] [] v.pending
-    pub ledger : v.ledger ≡ nothing_taken v.config.me v.config.set v.ledger.driver v.config.peers 1
+    pub ledger : v.ledger ≡ nothing_taken v.config.me v.config.set v.ledger.driver v.config.peers first
     pub known : IsLedger v.ledger
     pub deciding : RunsBy says v.ledger
     pub told : v.last_command ≡ None
     pub said : v.last_said ≡ []
     pub applier : Applies [] v.applier
-    pub applier_is : v.applier ≡ record { first = 1; failed = false; applied = []; buffer = [] }
+    pub applier_is : v.applier ≡ nothing_applied first base
     pub outboxes : v.outboxes ≡ replicate (length v.config.peers) empty_outbox
 
   -- one more event was played, and its reply was added

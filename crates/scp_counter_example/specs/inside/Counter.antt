@@ -1,12 +1,12 @@
 -- A counter that only grows: what its values are, and what they make of it.
-use Rattle.std.specs.Prelude.{ℕ, List, [], ◌∷◌, Bool, true, cond, if◌then◌else◌, Option, Some, None, nat_eq, nat_lt, length, take, fold}
+use Rattle.std.specs.Prelude.{ℕ, List, [], ◌∷◌, Bool, true, cond, if◌then◌else◌, Option, Some, None, unwrap_or, nat_eq, nat_lt, length, take, fold}
 use Rattle.std.specs.Ordering.{nat_cmp, is_lt}
-use Rattle.std.specs.Int.{from_be_bytes, w64}
+use Rattle.std.specs.Int.{from_be_bytes, to_be_bytes, w64}
 use Rattle.std.specs.Cmp.Lexicographic.{slice_cmp}
-use Rattle.scp_driver.specs.Driver.{Says}
-use Rattle.scp_driver.specs.Kv.{leader_place}
-use Rattle.scp_driver.specs.declared.driver.Level.{Level}
-use Rattle.scp_driver.specs.declared.driver.Level.TheVariants.{FullyValidated, Invalid}
+use Rattle.scp_turn.specs.scp_driver.specs.Driver.{Says}
+use Rattle.scp_turn.specs.scp_driver.specs.Kv.{leader_place}
+use Rattle.scp_turn.specs.scp_driver.specs.declared.driver.Level.{Level}
+use Rattle.scp_turn.specs.scp_driver.specs.declared.driver.Level.TheVariants.{FullyValidated, Invalid}
 use Rattle.scp_counter_example.specs.declared.counter.Counter.{Counter}
 
 -- the number that eight bytes spell, the highest first; other bytes spell none
@@ -53,3 +53,11 @@ after_number count value = raised count (number_in value)
 abbrev pub is_below : ℕ → Option ℕ → Bool
 is_below count (Some n) = nat_lt n count
 is_below count None = true
+
+-- the bytes of a count: eight, the highest first
+abbrev pub bytes_of : ℕ → List ℕ
+bytes_of count = to_be_bytes w64 count
+
+-- the count that bytes say; 0 where they say none
+abbrev pub count_in : List ℕ → ℕ
+count_in bytes = unwrap_or (number_in bytes) 0

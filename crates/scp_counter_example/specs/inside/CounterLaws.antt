@@ -6,8 +6,8 @@ use Rattle.std.proofs.Common.{subst, sym}
 use Rattle.std.specs.Int.{from_be_bytes, w64}
 use Rattle.std.specs.Ordering.{nat_cmp, is_lt}
 use Rattle.std.specs.Cmp.Lexicographic.{slice_cmp}
-use Rattle.scp_driver.specs.declared.driver.Level.TheVariants.{FullyValidated, Invalid}
-use Rattle.scp_counter_example.specs.inside.Counter.{number_in, level_of, lesser, least_from, least, raised, is_below}
+use Rattle.scp_turn.specs.scp_driver.specs.declared.driver.Level.TheVariants.{FullyValidated, Invalid}
+use Rattle.scp_counter_example.specs.inside.Counter.{number_in, level_of, lesser, least_from, least, raised, is_below, count_in}
 
 -- the value is a number
 abbrev Full : List ℕ → Type 0
@@ -42,3 +42,8 @@ number_is_short v valid = short_if v (nat_eq (length v) 8) refl valid
 pub below_stays : (count : ℕ) (found : Option ℕ) → is_below count found ≡ true → raised count found ≡ count
 below_stays count (Some n) below = subst (λ (b : Bool). cond b count n ≡ count) (sym below) refl
 below_stays count None below = refl
+
+-- no bytes say the count 0
+pub none_say_zero : count_in [] ≡ 0
+unfolding number_in
+none_say_zero = refl

@@ -1,7 +1,7 @@
 -- What a watch leaves.
 -- No public clause reaches this definition: nothing here need be believed.
 use Rattle.std.specs.Prelude.{◌≡◌, false, Option}
-use Rattle.scp_turn.specs.Network.{NetworkView}
+use Rattle.scp_trace.specs.scp_turn.specs.Network.{NetworkView}
 use Rattle.scp_trace.specs.scp_line.specs.declared.player.Stopped.{Stopped}
 use Rattle.scp_draw.specs.declared.playing.LineFacts.{LineFacts}
 use Rattle.scp_draw.specs.declared.playing.ToldRun.{ToldRun}

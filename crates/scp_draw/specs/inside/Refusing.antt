@@ -1,8 +1,8 @@
 -- Why a page isn't made, as the code finds it.
 -- No public clause reaches this definition: nothing here need be believed.
 use Rattle.std.specs.Prelude.{List}
-use Rattle.scp_script.specs.declared.command.Command.{Command}
-use Rattle.scp_script_check.specs.scp_device.specs.declared.bad.ReadFault.TheVariants as reads
+use Rattle.scp_trace.specs.scp_script.specs.declared.command.Command.{Command}
+use Rattle.scp_trace.specs.scp_device.specs.declared.bad.ReadFault.TheVariants as reads
 use Rattle.scp_draw.specs.declared.drawing.DrawFault.{DrawFault}
 use Rattle.scp_draw.specs.declared.drawing.DrawFault.TheVariants.{Unread, Stopped}
 use Rattle.scp_draw.specs.Drawn.{IsStopped}

@@ -1,7 +1,7 @@
 -- What enters the journal with its verdict; nothing here need be believed.
 use Rattle.std.specs.Prelude.{◌≡◌, List, [], ◌∷◌, Option, Some, None}
-use Rattle.scp_wire.specs.declared.message.Message.TheVariants.{Envelope}
-use Rattle.scp_wire.specs.Sets.{IsSetOf}
+use Rattle.scp_pending.specs.scp_wire.specs.declared.message.Message.TheVariants.{Envelope}
+use Rattle.scp_pending.specs.scp_wire.specs.Sets.{IsSetOf}
 use Rattle.scp_slot.specs.declared.output.SlotInput.{SlotInput}
 use Rattle.scp_slot.specs.declared.output.SlotInput.TheVariants.{Propose, Round, Timer, Envelope as Hear}
 use Rattle.scp_ledger.specs.declared.journal.Fate.{Fate}

@@ -1,12 +1,12 @@
 -- What the nodes of a script hear from line to line, while the script is played.
 -- No public clause reaches these definitions: nothing here need be believed.
 use Rattle.std.specs.Prelude.{◌≤◌, ◌≡◌, ◌⊎◌, List, length}
-use Rattle.scp_types.specs.declared.limits.TheConstants.{NODE_LIMIT}
-use Rattle.scp_types.specs.declared.fault.Fault.TheVariants.{Failed as failing, Full as full}
+use Rattle.scp_turn.specs.scp_types.specs.declared.limits.TheConstants.{NODE_LIMIT}
+use Rattle.scp_turn.specs.scp_types.specs.declared.fault.Fault.TheVariants.{Failed as failing, Full as full}
 use Rattle.scp_turn.specs.Heard.{Heard}
 use Rattle.scp_turn.specs.Network.{NetworkView}
-use Rattle.scp_script.specs.declared.command.Command.{Command}
-use Rattle.scp_script.specs.Nodes.{IsSmall}
+use Rattle.scp_report.specs.scp_script.specs.declared.command.Command.{Command}
+use Rattle.scp_report.specs.scp_script.specs.Nodes.{IsSmall}
 use Rattle.scp_line.specs.declared.playing.PlayFault.{PlayFault}
 use Rattle.scp_line.specs.Play.{ArePlayed, Stops, Overflows}
 use Rattle.scp_line.specs.Nodes.{IsWant}

@@ -5,7 +5,7 @@ use Rattle.scp_turn.specs.scp_core.specs.declared.event.Event.{Event}
 use Rattle.scp_turn.specs.scp_core.specs.declared.event.Reply.{Reply}
 use Rattle.scp_turn.specs.scp_core.specs.Kv.{NodeView}
 use Rattle.scp_turn.specs.Heard.{Nodes}
-use Rattle.scp_script.specs.declared.command.Command.{Command}
+use Rattle.scp_report.specs.scp_script.specs.declared.command.Command.{Command}
 use Rattle.scp_line.specs.Player.{Lining}
 
 -- If a watch isn't out of memory after something, another watch notes the same of what the first one holds. And the first one wasn't out of

@@ -1,11 +1,11 @@
 -- What the program writes for a command line, and why a script isn't played.
 use Rattle.std.specs.Prelude.{ℕ, ◌≡◌, ◌≤◌, ◌<◌, ◌⊎◌, List, length, Option, IfSome}
-use Rattle.scp_types.specs.declared.limits.TheConstants.{SCRIPT_LIMIT}
-use Rattle.scp_types.specs.declared.fault.Fault.TheVariants.{TooLong, Full, Failed, BadScript, Refused}
-use Rattle.scp_types.specs.declared.fault.Stage.{Stage}
-use Rattle.scp_device.specs.Device.{Gains, Fails}
+use Rattle.scp_line.specs.scp_types.specs.declared.limits.TheConstants.{SCRIPT_LIMIT}
+use Rattle.scp_line.specs.scp_types.specs.declared.fault.Fault.TheVariants.{TooLong, Full, Failed, BadScript, Refused}
+use Rattle.scp_line.specs.scp_types.specs.declared.fault.Stage.{Stage}
+use Rattle.scp_line.specs.scp_device.specs.Device.{Gains, Fails}
 use Rattle.scp_line.specs.declared.playing.PlayFault.{PlayFault}
-use Rattle.scp_script.specs.Script.{IsScript, IsBadLine, commands_in}
+use Rattle.scp_line.specs.scp_script.specs.Script.{IsScript, IsBadLine, commands_in}
 use Rattle.scp_line.specs.Outcome.{fault_line, IsPlayFault}
 use Rattle.scp_line.specs.Play.{IsNamed, Stops, Overflows}
 use Rattle.scp_line.specs.Threads.{IsThreadsFault, IsOfTheNodes, AreGivenUp}

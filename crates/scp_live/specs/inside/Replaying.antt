@@ -1,6 +1,6 @@
 -- Why entries can't be played again.
 use Rattle.std.specs.Prelude.{ℕ, ◌≡◌, ◌⊎◌}
-use Rattle.scp_types.specs.declared.fault.Fault.TheVariants as fault
+use Rattle.scp_again.specs.scp_types.specs.declared.fault.Fault.TheVariants as fault
 use Rattle.scp_live_log.specs.declared.kept.LogFault.{LogFault}
 use Rattle.scp_live_log.specs.declared.kept.LogFault.TheVariants.{Another, Damaged, Failed}
 

@@ -13,7 +13,7 @@ use Rattle.scp_live_config.specs.declared.wrong.Wrong.{Wrong}
 use Rattle.scp_live_config.specs.declared.wrong.Wrong.TheVariants as wrong
 use Rattle.scp_live_config.specs.declared.fault.ConfigFault.{ConfigFault}
 use Rattle.scp_live_config.specs.declared.fault.ConfigFault.TheVariants as config
-use Rattle.scp_types.specs.declared.names.NodeId.{NodeId}
+use Rattle.scp_quorum.specs.scp_types.specs.declared.names.NodeId.{NodeId}
 use Rattle.scp_live_config.specs.declared.sets.NodesFault.{NodesFault}
 use Rattle.scp_live_config.specs.declared.sets.NodesFault.TheVariants as nodes
 use Rattle.scp_live_config.specs.declared.sets.SetFault.{SetFault}

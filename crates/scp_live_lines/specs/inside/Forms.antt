@@ -2,7 +2,7 @@
 -- No public clause reaches these definitions, so nothing here needs to be believed.
 use Rattle.std.specs.Prelude.{◌≡◌, ℕ, Bool, true, false, List, [], ◌∷◌, Option, Some, None, codes}
 use Rattle.std.specs.Fmt.{decimal}
-use Rattle.scp_types.specs.declared.names.Slot.{Slot}
+use Rattle.scp_core.specs.scp_types.specs.declared.names.Slot.{Slot}
 use Rattle.scp_script.specs.Words.{hex_bytes}
 use Rattle.scp_script.specs.scp_device.specs.declared.bad.BadWord.{BadWord}
 use Rattle.scp_live_lines.specs.declared.verb.Verb.{Verb}

@@ -1,9 +1,9 @@
 -- What calls add to the text and to the entries of a batch.
 use Rattle.std.specs.Prelude.{ℕ, ◌≡◌, List, ◌++◌}
-use Rattle.scp_turn.specs.scp_core.specs.History.{Exchange}
-use Rattle.scp_live_log.specs.Log.{EntryView}
-use Rattle.scp_live_lines.specs.declared.asked.Asked.{Asked}
-use Rattle.scp_live_lines.specs.declared.asked.Asked.TheVariants.{Event}
+use Rattle.scp_stand_node.specs.scp_core.specs.History.{Exchange}
+use Rattle.scp_batches.specs.scp_live_log.specs.Log.{EntryView}
+use Rattle.scp_live.specs.scp_live_lines.specs.declared.asked.Asked.{Asked}
+use Rattle.scp_live.specs.scp_live_lines.specs.declared.asked.Asked.TheVariants.{Event}
 use Rattle.scp_live.specs.Live.{LiveView}
 
 -- The text that was written so far, and the entries that are to be kept.

@@ -1,10 +1,10 @@
 -- What became of a batch of lines.
 use Rattle.std.specs.Prelude.{ℕ, List, [], ◌∷◌, ◌++◌}
-use Rattle.scp_turn.specs.scp_core.specs.History.{Exchange}
-use Rattle.scp_live_log.specs.declared.kept.Kept.{Kept}
-use Rattle.scp_live_log.specs.Disk.{StartsWith}
-use Rattle.scp_live_log.specs.Kept.{IsSettled}
-use Rattle.scp_live_log.specs.Log.{EntryView, Marked, batch_of, log_of}
+use Rattle.scp_stand_node.specs.scp_core.specs.History.{Exchange}
+use Rattle.scp_batches.specs.scp_live_log.specs.declared.kept.Kept.{Kept}
+use Rattle.scp_batches.specs.scp_live_log.specs.Disk.{StartsWith}
+use Rattle.scp_batches.specs.scp_live_log.specs.Kept.{IsSettled}
+use Rattle.scp_batches.specs.scp_live_log.specs.Log.{EntryView, Marked, batch_of, log_of}
 use Rattle.scp_live.specs.Live.{LiveView}
 use Rattle.scp_live_process.specs.Answers.{AreAnswered, next_number}
 

@@ -1,7 +1,7 @@
 -- What calls do while entries are played.
 use Rattle.std.specs.Prelude.{ℕ, ◌≡◌, List, [], ◌∷◌, ◌++◌, map}
-use Rattle.scp_turn.specs.scp_core.specs.History.{Exchange}
-use Rattle.scp_live_log.specs.Log.{EntryView}
+use Rattle.scp_stand_node.specs.scp_core.specs.History.{Exchange}
+use Rattle.scp_batches.specs.scp_live_log.specs.Log.{EntryView}
 use Rattle.scp_live.specs.Live.{LiveView}
 use Rattle.scp_live.specs.Replays.{IsReplayed, AreReplayed}
 use Rattle.scp_live_process.specs.Closing.{close_line}

@@ -9,7 +9,7 @@ use Rattle.scp_nominate.specs.inside.Steps.{More, MoreVotes, IsTried}
 use Rattle.scp_nominate.specs.Steps.{AreVoted}
 use Rattle.scp_nominate.specs.Owed.{Names}
 use Rattle.std.specs.Option.{ForSome}
-use Rattle.scp_types.specs.declared.names.NodeId.{NodeId}
+use Rattle.scp_vote.specs.scp_types.specs.declared.names.NodeId.{NodeId}
 
 -- Steps 1 to 3 together, on one board. The votes grow. What is new in accepted is fully validated and accepted on the
 -- board, and what is new among the candidates is accepted, and confirmed on the board.

@@ -2,16 +2,16 @@
 -- No public clause reaches these definitions: nothing here need be believed.
 use Rattle.std.specs.Prelude.{◌≡◌, ◌⊎◌, List, [], ℕ, Bool, true, false, Option, Some}
 use Rattle.std.specs.Option.{ForSome}
-use Rattle.scp_envelope.specs.Newer.{ArePledgesNewer}
-use Rattle.scp_envelope.specs.declared.statement.Pledges.{Pledges}
-use Rattle.scp_envelope.specs.declared.statement.Envelope.{Envelope}
-use Rattle.scp_envelope.specs.Sane.{IsSane}
+use Rattle.scp_vote.specs.scp_envelope.specs.Newer.{ArePledgesNewer}
+use Rattle.scp_vote.specs.scp_envelope.specs.declared.statement.Pledges.{Pledges}
+use Rattle.scp_vote.specs.scp_envelope.specs.declared.statement.Envelope.{Envelope}
+use Rattle.scp_vote.specs.scp_envelope.specs.Sane.{IsSane}
 use Rattle.scp_vote.specs.declared.claim.Claim.TheVariants.{Nominated}
 use Rattle.scp_vote.specs.Board.{Seen, Puts, PutsCounted, IsNewBoard, Confirmed}
-use Rattle.scp_envelope.specs.Claims.{VotesValue, AcceptsValue}
-use Rattle.scp_types.specs.declared.names.NodeId.{NodeId}
-use Rattle.scp_quorum.specs.QuorumTree.{QuorumTree}
-use Rattle.scp_quorum.specs.QuorumKind.{set_spelling}
+use Rattle.scp_vote.specs.scp_envelope.specs.Claims.{VotesValue, AcceptsValue}
+use Rattle.scp_vote.specs.scp_types.specs.declared.names.NodeId.{NodeId}
+use Rattle.scp_vote.specs.scp_quorum.specs.QuorumTree.{QuorumTree}
+use Rattle.scp_vote.specs.scp_quorum.specs.QuorumKind.{set_spelling}
 use Rattle.sha2.specs.Sha256.{sha256}
 use Rattle.scp_vote.specs.inside.Chain.{IsChain}
 use Rattle.scp_nominate.specs.Heard.{heard}

@@ -1,17 +1,17 @@
 -- Why a script stops while it is played.
 -- No public clause reaches these definitions: nothing here need be believed.
 use Rattle.std.specs.Prelude.{ℕ, List}
-use Rattle.scp_types.specs.declared.fault.Fault.{Fault}
-use Rattle.scp_types.specs.declared.fault.Fault.TheVariants.{NoMemory as no_memory}
-use Rattle.scp_turn.specs.Network.{NetworkView}
-use Rattle.scp_script.specs.declared.command.Command.{Command}
+use Rattle.scp_line.specs.scp_types.specs.declared.fault.Fault.{Fault}
+use Rattle.scp_line.specs.scp_types.specs.declared.fault.Fault.TheVariants.{NoMemory as no_memory}
+use Rattle.scp_line.specs.scp_turn.specs.Network.{NetworkView}
+use Rattle.scp_line.specs.scp_script.specs.declared.command.Command.{Command}
 use Rattle.scp_line.specs.declared.playing.PlayFault.{PlayFault}
 use Rattle.scp_line.specs.Player.{Lining}
 use Rattle.scp_notices.specs.declared.notice.Notice.{Notice}
 use Rattle.scp_notices.specs.declared.playing.RunFault.{RunFault}
 use Rattle.scp_notices.specs.declared.playing.RunFault.TheVariants.{Stopped, Unread}
 use Rattle.scp_notices.specs.Run.{IsStoppedIn, IsWatched, Shows}
-use Rattle.scp_script_check.specs.scp_device.specs.declared.bad.ReadFault.TheVariants as reads
+use Rattle.scp_line.specs.scp_device.specs.declared.bad.ReadFault.TheVariants as reads
 
 -- why a script stopped in a line, from the fault of that line
 abbrev pub stop_by : ℕ → PlayFault → Fault → RunFault

@@ -1,7 +1,7 @@
 -- What the record of a node has, as the code holds it.
 -- No public clause reaches these definitions: nothing here need be believed.
 use Rattle.std.specs.Prelude.{ℕ, List}
-use Rattle.scp_ledger.specs.declared.journal.Decision.{Decision}
+use Rattle.scp_line.specs.scp_ledger.specs.declared.journal.Decision.{Decision}
 use Rattle.scp_line.specs.scp_report.specs.declared.report.Report.{Report}
 use Rattle.scp_line.specs.scp_report.specs.Report.{view_of}
 use Rattle.scp_notices.specs.Lost.{losses_of}

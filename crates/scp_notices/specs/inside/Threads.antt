@@ -1,13 +1,13 @@
 -- Why a script isn't played in threads.
 -- No public clause reaches these definitions: nothing here need be believed.
 use Rattle.std.specs.Prelude.{◌≢◌, List}
-use Rattle.scp_types.specs.declared.fault.Fault.{Fault}
-use Rattle.scp_types.specs.declared.fault.Fault.TheVariants.{NoMemory as no_memory}
+use Rattle.scp_line.specs.scp_types.specs.declared.fault.Fault.{Fault}
+use Rattle.scp_line.specs.scp_types.specs.declared.fault.Fault.TheVariants.{NoMemory as no_memory}
 use Rattle.scp_line.specs.scp_threaded_script.specs.Reported.{IsGivenUp}
-use Rattle.scp_script.specs.declared.command.Command.{Command}
+use Rattle.scp_line.specs.scp_script.specs.declared.command.Command.{Command}
 use Rattle.scp_line.specs.declared.playing.PlayFault.{PlayFault}
 use Rattle.scp_notices.specs.declared.playing.RunFault.{RunFault}
-use Rattle.scp_script_check.specs.scp_device.specs.declared.bad.ReadFault.TheVariants as reads
+use Rattle.scp_line.specs.scp_device.specs.declared.bad.ReadFault.TheVariants as reads
 use Rattle.scp_notices.specs.declared.playing.RunFault.TheVariants.{Unread, GivenUp}
 
 -- why a script ended in threads, from the fault of its nodes

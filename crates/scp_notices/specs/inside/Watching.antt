@@ -1,14 +1,14 @@
 -- What a watch notes of commands.
 -- No public clause reaches these definitions: nothing here need be believed.
 use Rattle.std.specs.Prelude.{ℕ, ◌≡◌, ◌⊎◌, Bool, true, false, List, [], ◌++◌, Option, map, option_to_list}
-use Rattle.scp_ledger.specs.declared.took.CommandFate.{CommandFate}
-use Rattle.scp_core.specs.declared.event.Event.{Event}
-use Rattle.scp_core.specs.declared.event.Event.TheVariants.{SlotTake}
-use Rattle.scp_core.specs.declared.event.Reply.{Reply}
-use Rattle.scp_core.specs.declared.event.Reply.TheVariants.{Moved}
-use Rattle.scp_core.specs.Kv.{NodeView}
-use Rattle.scp_turn.specs.Heard.{Nodes}
-use Rattle.scp_script.specs.declared.command.Command.{Command}
+use Rattle.scp_line.specs.scp_ledger.specs.declared.took.CommandFate.{CommandFate}
+use Rattle.scp_line.specs.scp_core.specs.declared.event.Event.{Event}
+use Rattle.scp_line.specs.scp_core.specs.declared.event.Event.TheVariants.{SlotTake}
+use Rattle.scp_line.specs.scp_core.specs.declared.event.Reply.{Reply}
+use Rattle.scp_line.specs.scp_core.specs.declared.event.Reply.TheVariants.{Moved}
+use Rattle.scp_line.specs.scp_core.specs.Kv.{NodeView}
+use Rattle.scp_line.specs.scp_turn.specs.Heard.{Nodes}
+use Rattle.scp_line.specs.scp_script.specs.declared.command.Command.{Command}
 use Rattle.scp_notices.specs.declared.commands.Told.{Told}
 use Rattle.scp_notices.specs.Run.{with_cut}
 

@@ -1,8 +1,8 @@
 -- What the code does with queues and outcomes, on the way to the rules; nothing here need be believed.
 use Rattle.std.specs.Prelude.{ℕ, ◌<◌, ◌≡◌, ◌++◌, true, List, Option, Some, length, get_or, set, remove, flat_map}
 use Rattle.std.specs.List.{AllZip}
-use Rattle.scp_types.specs.declared.names.ConnId.{ConnId}
-use Rattle.scp_types.specs.declared.names.Hash.{Hash}
+use Rattle.scp_wire.specs.scp_types.specs.declared.names.ConnId.{ConnId}
+use Rattle.scp_wire.specs.scp_types.specs.declared.names.Hash.{Hash}
 use Rattle.scp_wire.specs.declared.carried.Carried.{Carried}
 use Rattle.scp_pending.specs.Queues.{QueueView, is_open, parked_of, others, changed, with_set, lost_by, hash_of}
 use Rattle.scp_pending.specs.Messages.{IsParkedAs}

@@ -11,8 +11,8 @@ use crate::becoming::{Becoming, Why};
 use crate::parked::named;
 use crate::queue::{count_at, place_of};
 use scp_fetch::SetStore;
-use scp_quorum::QuorumSet;
-use scp_types::{ConnId, Fault, Hash};
+use scp_wire::below::quorum::QuorumSet;
+use scp_wire::below::types::{ConnId, Fault, Hash};
 use scp_wire::{Carried, Command, Inbound, SideMessage};
 
 impl Parking {

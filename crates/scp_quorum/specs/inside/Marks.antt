@@ -3,7 +3,7 @@
 use Rattle.std.specs.Prelude.{ℕ, Bool, false, List, [], ◌∷◌, Option, Some, None, get_or, slice_get, IsTrue, ◌↔◌}
 use Rattle.std.specs.declared.sync.Arc.{Arc}
 use Rattle.std.specs.Global.{Global}
-use Rattle.scp_types.specs.declared.names.NodeId.{NodeId}
+use Rattle.scp_xdr.specs.scp_types.specs.declared.names.NodeId.{NodeId}
 use Rattle.scp_quorum.specs.declared.sane_set.SaneSet.{SaneSet}
 use Rattle.scp_quorum.specs.declared.quorum.places.Seat.{Seat}
 use Rattle.scp_quorum.specs.Satisfies.{Satisfies}

@@ -1,7 +1,7 @@
 -- Which sets of nodes are quorums (the SCP draft). Each node has a quorum set, or none is known.
 -- No public clause reaches these definitions: nothing here need be believed.
 use Rattle.std.specs.Prelude.{◌≡◌, Bool, true, Option, IsSome}
-use Rattle.scp_types.specs.declared.names.NodeId.{NodeId}
+use Rattle.scp_xdr.specs.scp_types.specs.declared.names.NodeId.{NodeId}
 use Rattle.scp_quorum.specs.QuorumTree.{QuorumTree}
 use Rattle.scp_quorum.specs.Quorum.{SatisfyThemselves, IsWithin}
 

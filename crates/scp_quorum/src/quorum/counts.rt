@@ -6,7 +6,7 @@
 use super::groups::{Group, has_member};
 use super::table::NodeTable;
 use crate::quorum_set::QuorumSet;
-use scp_types::NodeId;
+use scp_xdr::below::types::NodeId;
 use std::alloc::{AllocError, Global};
 use std::collections::BTreeSet;
 

@@ -2,7 +2,7 @@
 ghost use Rattle.std.specs.Prelude.{◌≡◌, ◌↔◌, ◌<◌, IfOk, IfNone, IfSome, IsTrue, IsOkUnless};
 ghost use Rattle.std.specs.Bool.{OnFalse, OnTrue};
 ghost use Rattle.std.specs.BTreeSet.{btree_set_len};
-ghost use Rattle.scp_types.specs.declared.names.NodeId.{NodeId};
+ghost use Rattle.scp_xdr.specs.scp_types.specs.declared.names.NodeId.{NodeId};
 ghost use Rattle.scp_quorum.specs.NodeSet.{is_in};
 ghost use Rattle.scp_quorum.specs.Quorum.{set_of, SatisfyThemselves, IsGreatestQuorum, IsInSomeQuorum, HasNoQuorum};
 ghost use Rattle.scp_quorum.specs.inside.Quorum.{AllHaveSets, KeepsQuorums};
@@ -10,7 +10,7 @@ ghost use Rattle.scp_quorum.specs.inside.Quorum.{AllHaveSets, KeepsQuorums};
 use super::known_nodes;
 use crate::quorum_set::satisfied;
 use crate::sane_set::SaneSet;
-use scp_types::{Fault, NodeId};
+use scp_xdr::below::types::{Fault, NodeId};
 use std::alloc::Global;
 use std::collections::{BTreeMap, BTreeSet};
 use std::sync::Arc;

@@ -1,7 +1,7 @@
 //! The greatest quorum among nodes that are known by their places, over borrowed sets.
 ghost use Rattle.std.specs.Prelude.{◌≡◌, ◌↔◌, ◌<◌, ℕ, Option, Bool, true, false, get_or, length, count_by, IfOk, OnOk, IsTrue, IsOkUnless};
 ghost use Rattle.std.specs.Bool.{OnFalse, OnTrue};
-ghost use Rattle.scp_types.specs.declared.names.NodeId.{NodeId};
+ghost use Rattle.scp_xdr.specs.scp_types.specs.declared.names.NodeId.{NodeId};
 ghost use Rattle.scp_quorum.specs.Quorum.{IsWithin, IsGreatestQuorum, HasNoQuorum, SatisfyThemselves};
 ghost use Rattle.scp_quorum.specs.inside.Quorum.{KeepsQuorums};
 ghost use Rattle.scp_quorum.specs.Places.{marked, only, shared_set};
@@ -9,7 +9,7 @@ ghost use Rattle.scp_quorum.specs.inside.Marks.{AreVerdicts, kept_at};
 
 use crate::quorum_set::Nodes;
 use crate::sane_set::SaneSet;
-use scp_types::{Fault, NodeId};
+use scp_xdr::below::types::{Fault, NodeId};
 use std::alloc::{AllocError, Global};
 use std::sync::Arc;
 

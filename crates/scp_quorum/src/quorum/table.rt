@@ -9,7 +9,7 @@ ghost use Rattle.std.specs.List.{All, Contains};
 ghost use Rattle.scp_quorum.specs.NodeSet.{is_in};
 
 use crate::quorum_set::Nodes;
-use scp_types::NodeId;
+use scp_xdr::below::types::NodeId;
 use std::alloc::{AllocError, Global};
 use std::collections::BTreeSet;
 use std::marker::Model;
@@ -122,7 +122,7 @@ impl<'a> Model for KnownNodes<'a> {
     ghost use Rattle.std.specs.Prelude.{IsTrue};
     ghost use Rattle.std.specs.List.{All};
     ghost use Rattle.std.specs.BTreeSet.{BTreeSet};
-    ghost use Rattle.scp_types.specs.declared.names.NodeId.{NodeId};
+    ghost use Rattle.scp_xdr.specs.scp_types.specs.declared.names.NodeId.{NodeId};
     ghost use Rattle.scp_quorum.specs.NodeSet.{is_in};
 
     ghost Value = { BTreeSet NodeId };

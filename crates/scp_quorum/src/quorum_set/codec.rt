@@ -9,7 +9,7 @@ ghost use Rattle.scp_xdr.specs.Shared.{node_value};
 ghost use Rattle.scp_quorum.specs.QuorumKind.{level_kind, set_kind, level_value, set_value};
 
 use super::QuorumSet;
-use scp_types::{Fault, NodeId};
+use scp_xdr::below::types::{Fault, NodeId};
 use scp_xdr::{
     Reader, Writer, Xdr, array_fits, pass_array, read_array, spend_array, spend_u32, write_array,
 };

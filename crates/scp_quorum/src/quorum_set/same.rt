@@ -3,7 +3,7 @@ ghost use Rattle.std.specs.Prelude.{◌≡◌, length, take};
 ghost use Rattle.std.specs.Bool.{OnFalse, OnTrue};
 
 use super::QuorumSet;
-use scp_types::NodeId;
+use scp_xdr::below::types::NodeId;
 use std::simd::prelude::*;
 
 impl QuorumSet {

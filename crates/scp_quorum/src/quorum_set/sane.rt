@@ -7,8 +7,8 @@ ghost use Rattle.std.specs.List.Sorted.{IsStrictlySortedBy};
 ghost use Rattle.scp_quorum.specs.Sane.{IsSane, IsInRange, all_nodes};
 
 use super::QuorumSet;
-use scp_types::NodeId;
 use scp_xdr::Xdr;
+use scp_xdr::below::types::NodeId;
 
 /// How many nodes a sane quorum set may have in all (this project's profile).
 const MAX_NODES: usize = 1_000;

@@ -1,13 +1,13 @@
 //! Which sets of nodes satisfy and block a quorum set: one loop does both. Nodes block a set if the other nodes don't
 //! satisfy it. More nodes never satisfy less, and what is disjoint from the nodes lies within the others.
 ghost use Rattle.std.specs.Prelude.{◌≡◌, ◌↔◌, ◌≤◌, Bool, IfSome, IsTrue, count_by, length, take};
-ghost use Rattle.scp_types.specs.declared.names.NodeId.{NodeId};
+ghost use Rattle.scp_xdr.specs.scp_types.specs.declared.names.NodeId.{NodeId};
 ghost use Rattle.scp_quorum.specs.NodeSet.{is_in};
 ghost use Rattle.scp_quorum.specs.Satisfies.{Satisfies, Blocks};
 ghost use Rattle.scp_quorum.specs.inside.Satisfies.{outside};
 
 use super::QuorumSet;
-use scp_types::NodeId;
+use scp_xdr::below::types::NodeId;
 use std::collections::BTreeSet;
 
 /// A set of nodes that can be asked whether it has a node.

@@ -3,9 +3,9 @@
 use Rattle.std.specs.Prelude.{List, [], Option, Some, None, map}
 use Rattle.std.proofs.Common.{Bor, Vec}
 use Rattle.std.specs.BTreeMap.{BTreeMap, get}
-use Rattle.scp_types.specs.declared.names.ConnId.{ConnId}
-use Rattle.scp_types.specs.Order.{conn_cmp}
-use Rattle.scp_ledger.specs.declared.journal.Fate.{Fate}
+use Rattle.scp_core.specs.scp_types.specs.declared.names.ConnId.{ConnId}
+use Rattle.scp_core.specs.scp_types.specs.Order.{conn_cmp}
+use Rattle.scp_core.specs.scp_ledger.specs.declared.journal.Fate.{Fate}
 
 -- the entries that were found, or none
 abbrev pub fates_or_none : {Z : Type 0} → Option (Vec (Bor Fate) Z) → List Fate

@@ -2,8 +2,8 @@
 -- No public clause reaches these definitions: nothing here need be believed.
 use Rattle.std.specs.Prelude.{ℕ, List, [], Option, Some, None, String, string_bytes}
 use Rattle.std.specs.BTreeMap.{BTreeMap, get}
-use Rattle.scp_types.specs.declared.names.ConnId.{ConnId}
-use Rattle.scp_types.specs.Order.{conn_cmp}
+use Rattle.scp_core.specs.scp_types.specs.declared.names.ConnId.{ConnId}
+use Rattle.scp_core.specs.scp_types.specs.Order.{conn_cmp}
 
 -- the text that was found, or none
 abbrev pub text_of : {Z : Type 0} → Option (String Z) → List ℕ

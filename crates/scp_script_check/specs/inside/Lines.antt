@@ -1,16 +1,16 @@
 -- The lines of a script, in hex digits or as text, and the first bad one (this project's profile).
 -- No public clause reaches this: nothing here need be believed.
 use Rattle.std.specs.Prelude.{◌≡◌, Bool, not, ℕ, List, Option, Some, None, Result, Ok, Err}
-use Rattle.scp_types.specs.declared.fault.Fault.{Fault}
-use Rattle.scp_types.specs.declared.fault.Fault.TheVariants.{BadScript}
+use Rattle.scp_nominate.specs.scp_types.specs.declared.fault.Fault.{Fault}
+use Rattle.scp_nominate.specs.scp_types.specs.declared.fault.Fault.TheVariants.{BadScript}
 use Rattle.scp_script_text.specs.declared.script.Form.TheVariants.{Hex}
 use Rattle.scp_script_text.specs.Scripts.{IsLineOf}
 use Rattle.scp_script.specs.declared.command.Command.{Command}
 use Rattle.scp_script.specs.Words.{words_of, is_skipped}
 use Rattle.scp_script.specs.declared.reading.Reading.{Reading}
 use Rattle.scp_script.specs.Reading.{Stands, TakesWords}
-use Rattle.scp_device.specs.declared.bad.ReadFault.{ReadFault}
-use Rattle.scp_device.specs.declared.bad.ReadFault.TheVariants as faults
+use Rattle.scp_script.specs.scp_device.specs.declared.bad.ReadFault.{ReadFault}
+use Rattle.scp_script.specs.scp_device.specs.declared.bad.ReadFault.TheVariants as faults
 use Rattle.scp_script_check.specs.Lines.{IsBad, IsReason, IsBadAt, IsFirstBad}
 
 -- the line was taken in after what was read: its hex digits may follow that, and hold a command or are skipped

@@ -2,7 +2,7 @@
 -- No public clause reaches this: nothing here need be believed.
 use Rattle.std.specs.Prelude.{List, [], ◌∷◌, Option, Some, None}
 use Rattle.std.specs.BTreeSet.{BTreeSet}
-use Rattle.scp_types.specs.declared.names.NodeId.{NodeId}
+use Rattle.scp_script.specs.scp_types.specs.declared.names.NodeId.{NodeId}
 use Rattle.scp_script_hints.specs.declared.hint.Hint.{Hint}
 use Rattle.scp_script_hints.specs.declared.hint.Hint.TheVariants.{Disjoint}
 

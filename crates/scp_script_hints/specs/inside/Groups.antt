@@ -3,10 +3,10 @@ use Rattle.std.specs.Prelude.{◌≡◌, ◌≤◌, ℕ, Bool, true, false, List
 use Rattle.std.specs.List.{All, Any}
 use Rattle.std.specs.BTreeMap.{is_at}
 use Rattle.std.specs.BTreeSet.{BTreeSet}
-use Rattle.scp_types.specs.declared.names.NodeId.{NodeId}
-use Rattle.scp_quorum.specs.NodeSet.{node_cmp, is_in}
-use Rattle.scp_quorum.specs.Quorum.{IsWithin}
-use Rattle.scp_quorum.specs.Satisfies.{AreDisjoint}
+use Rattle.scp_script.specs.scp_types.specs.declared.names.NodeId.{NodeId}
+use Rattle.scp_script.specs.scp_quorum.specs.NodeSet.{node_cmp, is_in}
+use Rattle.scp_script.specs.scp_quorum.specs.Quorum.{IsWithin}
+use Rattle.scp_script.specs.scp_quorum.specs.Satisfies.{AreDisjoint}
 use Rattle.scp_script_hints.specs.declared.member.Member.{Member}
 use Rattle.scp_script_hints.specs.Quorums.{AreMembers, IsQuorumOf, IsListed, IsHalting}
 

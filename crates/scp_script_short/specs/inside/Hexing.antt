@@ -1,15 +1,15 @@
 -- Lines of an expanded script, in hex digits.
 -- No public clause reaches this: nothing here need be believed.
 use Rattle.std.specs.Prelude.{◌≡◌, ◌<◌, List, Option, Some}
-use Rattle.scp_text.specs.scp_device.specs.declared.bad.WordFault.TheVariants.{Bad}
+use Rattle.scp_script_text.specs.scp_device.specs.declared.bad.WordFault.TheVariants.{Bad}
 use Rattle.scp_script_text.specs.declared.script.Form.TheVariants.{Hex}
-use Rattle.scp_text.specs.scp_device.specs.declared.bad.ReadFault.{ReadFault}
-use Rattle.scp_text.specs.scp_device.specs.declared.bad.ReadFault.TheVariants as errors
+use Rattle.scp_script_text.specs.scp_device.specs.declared.bad.ReadFault.{ReadFault}
+use Rattle.scp_script_text.specs.scp_device.specs.declared.bad.ReadFault.TheVariants as errors
 use Rattle.scp_script_text.specs.Scripts.{IsLineOf, IsNoLineOf}
 use Rattle.scp_script_short.specs.declared.hexing.HexError.{HexError}
 use Rattle.scp_script_short.specs.declared.hexing.HexError.TheVariants.{NoMemory, TooLong, Short, Text}
 use Rattle.scp_script_short.specs.declared.placed.PlacedLine.{PlacedLine}
-use Rattle.scp_text.specs.scp_device.specs.declared.bad.BadLine.{BadLine}
+use Rattle.scp_script_text.specs.scp_device.specs.declared.bad.BadLine.{BadLine}
 use Rattle.scp_script_short.specs.Hexing.{IsFirst, IsRefusedLine}
 
 -- the line in hex digits, with the same place

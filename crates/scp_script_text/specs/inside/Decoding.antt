@@ -1,8 +1,8 @@
 -- What is reported of bytes that are no message.
 -- No public clause reaches this: nothing here need be believed.
 use Rattle.std.specs.Prelude.{◌≡◌}
-use Rattle.scp_types.specs.declared.fault.Fault.{Fault}
-use Rattle.scp_types.specs.declared.fault.Fault.TheVariants as faults
+use Rattle.scp_text.specs.scp_types.specs.declared.fault.Fault.{Fault}
+use Rattle.scp_text.specs.scp_types.specs.declared.fault.Fault.TheVariants as faults
 use Rattle.scp_script_text.specs.declared.decoding.DecodeError.{DecodeError}
 use Rattle.scp_script_text.specs.declared.decoding.DecodeError.TheVariants.{NoMemory, TooLong, Malformed}
 

@@ -1,7 +1,7 @@
 -- The first lines of a script, and those after them.
 -- No public clause reaches these definitions, so nothing here needs to be believed.
 use Rattle.std.specs.Prelude.{ℕ, ◌≡◌, List, ◌++◌}
-use Rattle.scp_script.specs.declared.command.Command.{Command}
+use Rattle.scp_line.specs.scp_script.specs.declared.command.Command.{Command}
 use Rattle.scp_script_check.specs.Lines.{IsSaid}
 use Rattle.scp_sim.specs.inside.Lines.{IsDoneText}
 

@@ -3,11 +3,11 @@
 use Rattle.std.specs.Prelude.{ℕ, ◌≡◌, ◌<◌, ◌^◌, true, List, [], ◌++◌, Some, codes}
 use Rattle.std.specs.Fmt.{decimal}
 use Rattle.hex.specs.Hex.{IsBytes}
-use Rattle.scp_script_text.specs.Lines.{digits_of}
-use Rattle.scp_script.specs.declared.command.Command.{Command}
-use Rattle.scp_script.specs.declared.command.Command.TheVariants.{Caps, Nodes, Set, Open, Close, Send, Propose, Round, Timer, Tick, Ask, Settle, Wait, Report}
-use Rattle.scp_script.specs.Script.{command_in, is_line}
-use Rattle.scp_script.specs.Words.{words_of}
+use Rattle.scp_script_check.specs.scp_script_text.specs.Lines.{digits_of}
+use Rattle.scp_line.specs.scp_script.specs.declared.command.Command.{Command}
+use Rattle.scp_line.specs.scp_script.specs.declared.command.Command.TheVariants.{Caps, Nodes, Set, Open, Close, Send, Propose, Round, Timer, Tick, Ask, Settle, Wait, Report}
+use Rattle.scp_line.specs.scp_script.specs.Script.{command_in, is_line}
+use Rattle.scp_line.specs.scp_script.specs.Words.{words_of}
 use Rattle.scp_sim.specs.Lines.{AreDone, text_of}
 
 -- The line of a command, without its line end. It is empty for `caps`, `nodes` and `set`, with which a script begins; these are never

@@ -1,10 +1,10 @@
 -- How an envelope is judged by its values, and compared with the newest one.
 -- No public clause reaches these definitions: nothing here need be believed.
 use Rattle.std.specs.Prelude.{◌≡◌, ◌⊎◌, ℕ, List, Option}
-use Rattle.scp_envelope.specs.declared.statement.Statement.{Statement}
-use Rattle.scp_driver.specs.declared.driver.Level.{Level}
-use Rattle.scp_types.specs.declared.names.NodeId.{NodeId}
-use Rattle.scp_envelope.specs.Sane.{IsSane}
+use Rattle.scp_nominate.specs.scp_envelope.specs.declared.statement.Statement.{Statement}
+use Rattle.scp_nominate.specs.scp_driver.specs.declared.driver.Level.{Level}
+use Rattle.scp_nominate.specs.scp_types.specs.declared.names.NodeId.{NodeId}
+use Rattle.scp_nominate.specs.scp_envelope.specs.Sane.{IsSane}
 use Rattle.scp_slot.specs.declared.newest.Heard.{Heard}
 use Rattle.scp_slot.specs.declared.output.Verdict.{Verdict}
 use Rattle.scp_slot.specs.declared.output.Verdict.TheVariants.{Fresh, Stale, Own, BadStatement, BadValue}

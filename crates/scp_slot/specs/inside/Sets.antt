@@ -1,10 +1,10 @@
 -- The counted sets of the nodes that have reached a counter.
 use Rattle.std.specs.Prelude.{◌≡◌, ℕ, nat_le, cond, Option, Some, None}
-use Rattle.scp_types.specs.declared.names.NodeId.{NodeId}
-use Rattle.scp_quorum.specs.QuorumTree.{QuorumTree}
-use Rattle.scp_envelope.specs.declared.statement.Pledges.{Pledges}
-use Rattle.scp_vote.specs.Board.{Seen}
-use Rattle.scp_ballot_rules.specs.Owed.{counter_in}
+use Rattle.scp_nominate.specs.scp_types.specs.declared.names.NodeId.{NodeId}
+use Rattle.scp_nominate.specs.scp_quorum.specs.QuorumTree.{QuorumTree}
+use Rattle.scp_nominate.specs.scp_envelope.specs.declared.statement.Pledges.{Pledges}
+use Rattle.scp_nominate.specs.scp_vote.specs.Board.{Seen}
+use Rattle.scp_ballot.specs.scp_ballot_rules.specs.Owed.{counter_in}
 
 -- the set, if the statement has this counter or a higher one
 abbrev pub set_from : ℕ → Option Pledges → Option QuorumTree → Option QuorumTree

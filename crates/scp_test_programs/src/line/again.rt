@@ -4,10 +4,10 @@
 //! allocation may be refused, alone or with all later ones, and no assertion fails.
 
 use super::{REPORT, SCRIPT, VERDICTS, VERDICTS_REPORT};
-use scp_line::{
+use scp_live_process::below::line::{
     FailsAt, MemoryIn, MemoryOut, PlayFault, ReportOut, ScriptIn, check, play, show, write_text,
 };
-use scp_types::Fault;
+use scp_live_process::below::types::Fault;
 use std::alloc::Global;
 use std::process::Abort;
 use std::test::Fail;

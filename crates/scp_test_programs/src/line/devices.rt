@@ -1,6 +1,6 @@
 //! What writers write.
 
-use scp_line::{MemoryOut, ReportOut, write_text};
+use scp_live_process::below::line::{MemoryOut, ReportOut, write_text};
 use std::process::Abort;
 use std::test::Fail;
 

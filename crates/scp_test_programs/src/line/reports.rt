@@ -1,9 +1,9 @@
 //! The report of a handmade journal.
 
-use scp_core::{Cause, Fate};
-use scp_line::{Report, write_settled};
-use scp_quorum::QuorumSet;
-use scp_types::{ConnId, NodeId};
+use scp_live_process::below::line::{Report, write_settled};
+use scp_live_process::below::node::{Cause, Fate};
+use scp_live_process::below::quorum::QuorumSet;
+use scp_live_process::below::types::{ConnId, NodeId};
 use std::alloc::Global;
 use std::process::Abort;
 use std::test::Fail;

@@ -1,8 +1,8 @@
 //! Nodes whose stages run in threads.
 use super::{REPORT, SCRIPT};
-use scp_ends::{Gate, Moment, Place, Stage};
-use scp_line::{MemoryIn, MemoryOut, play_gated};
-use scp_types::NodeId;
+use scp_live_process::below::ends::{Gate, Moment, Place, Stage};
+use scp_live_process::below::line::{MemoryIn, MemoryOut, play_gated};
+use scp_live_process::below::types::NodeId;
 use std::process::Abort;
 use std::sync::atomic::{AtomicU64, Ordering};
 use std::thread;

@@ -1,11 +1,11 @@
 //! A node over devices in memory that refuse calls.
 ghost use Rattle.std.specs.Prelude.{◌≡◌, None};
-ghost use Rattle.scp_live_log.specs.Disk.{HasCause};
+ghost use Rattle.scp_live_process.specs.scp_live_log.specs.Disk.{HasCause};
 
-use scp_device::{FailsAt, MemoryIn, MemoryOut, ScriptIn};
-use scp_live_log::{EventLog, MemoryLog};
+use scp_live_process::below::device::{FailsAt, MemoryIn, MemoryOut, ScriptIn};
+use scp_live_process::below::live_log::{EventLog, MemoryLog};
+use scp_live_process::below::types::Fault;
 use scp_live_process::run_node;
-use scp_types::Fault;
 use std::alloc::Global;
 
 /// Room for each text here, so that a writer in memory asks for none.
@@ -89,6 +89,11 @@ impl EventLog for Refuses<'_> {
     fn sync(&mut self) -> Result<(), Fault> {
         self.count()?;
         self.log.sync()
+    }
+
+    fn replace(&mut self, bytes: &[u8]) -> Result<(), Fault> {
+        self.count()?;
+        self.log.replace(bytes)
     }
 }
 

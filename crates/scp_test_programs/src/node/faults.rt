@@ -1,7 +1,7 @@
 //! Each call of a device refused in turn.
 
 use super::devices::{ALICE, Device, Given, Ran, played, run, whole};
-use scp_types::Fault;
+use scp_live_process::below::types::Fault;
 use std::alloc::Global;
 use std::process::Abort;
 use std::str;

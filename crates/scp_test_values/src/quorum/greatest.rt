@@ -1,8 +1,8 @@
 //! The greatest quorum at a node.
 use super::{Flat, flat, node};
 use crate::twice::is_right_or_out_of_memory;
+use scp_quorum::below::types::{Fault, NodeId};
 use scp_quorum::{QuorumSet, SaneSet, greatest_quorum};
-use scp_types::{Fault, NodeId};
 use std::alloc::Global;
 use std::collections::BTreeMap;
 use std::sync::Arc;

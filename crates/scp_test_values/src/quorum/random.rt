@@ -1,8 +1,8 @@
 //! The greatest quorum against the plain program, on maps of pseudo-random sets.
 use super::greatest::{Sets, give};
 use super::{deep_set, node};
+use scp_quorum::below::types::{Fault, NodeId};
 use scp_quorum::{QuorumSet, greatest_quorum, greatest_quorum_by_passes};
-use scp_types::{Fault, NodeId};
 use std::alloc::Global;
 use std::collections::BTreeMap;
 use std::sync::Arc;

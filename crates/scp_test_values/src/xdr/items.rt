@@ -1,6 +1,6 @@
 //! What a writer takes, and a reader gives.
-use scp_types::Fault;
-use scp_xdr::{Reader, Writer};
+use scp_quorum::below::types::Fault;
+use scp_quorum::below::xdr::{Reader, Writer};
 use std::test::*;
 
 /// An item, after its limit if it has one.

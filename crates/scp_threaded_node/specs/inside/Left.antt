@@ -1,10 +1,10 @@
 -- What the threads of a node left, compared with what they were started with.
 use Rattle.std.specs.Prelude.{◌≡◌, ℕ, List, length, Option, Some, slice_get}
-use Rattle.scp_shared_outbox.specs.Ends.{TakerView}
-use Rattle.scp_ends.specs.Links.{LinkEnd}
-use Rattle.scp_workers.specs.Working.{Holds}
-use Rattle.scp_workers.specs.Reading.{ReaderEnd}
-use Rattle.scp_workers.specs.Carrying.{IsSameLink}
+use Rattle.scp_gather.specs.scp_shared_outbox.specs.Ends.{TakerView}
+use Rattle.scp_gather.specs.scp_ends.specs.Links.{LinkEnd}
+use Rattle.scp_gather.specs.scp_workers.specs.Working.{Holds}
+use Rattle.scp_gather.specs.scp_workers.specs.Reading.{ReaderEnd}
+use Rattle.scp_gather.specs.scp_workers.specs.Carrying.{IsSameLink}
 use Rattle.scp_gather.specs.Left.{Left}
 use Rattle.scp_threaded_node.specs.declared.node.Node.{Node}
 use Rattle.scp_threaded_node.specs.declared.node.Running.{Running}

@@ -1,7 +1,7 @@
 -- What is reported of nodes as they end.
 use Rattle.std.specs.Prelude.{◌≡◌, ◌≤◌, ◌⊎◌, List, length, Option, Some, None, false}
 use Rattle.std.specs.Global.{Vec}
-use Rattle.scp_types.specs.declared.fault.Fault.TheVariants.{NoMemory, NotOpen}
+use Rattle.scp_threaded_node.specs.scp_types.specs.declared.fault.Fault.TheVariants.{NoMemory, NotOpen}
 use Rattle.scp_script.specs.declared.command.Command.{Command}
 use Rattle.scp_script.specs.Script.{node_count}
 use Rattle.scp_threaded_node.specs.declared.ending.Stood.{Stood}

@@ -3,9 +3,9 @@ use Rattle.std.specs.Prelude.{◌≡◌, ℕ, ◌+◌, ◌⊎◌, Bool, List, le
 use Rattle.std.specs.Global.{Vec}
 use Rattle.std.specs.List.{AllByRecursion}
 use Rattle.atomic_table.specs.Seated.{TableId}
-use Rattle.scp_shared_outbox.specs.Ends.{MarkerView, TakerView}
-use Rattle.scp_shared_outbox.specs.Places.{Each}
-use Rattle.scp_shared_outbox.specs.Table.{desk_of, ArePuttersOf, IsAnyTakerOf}
+use Rattle.scp_threaded_node.specs.scp_shared_outbox.specs.Ends.{MarkerView, TakerView}
+use Rattle.scp_threaded_node.specs.scp_shared_outbox.specs.Places.{Each}
+use Rattle.scp_threaded_node.specs.scp_shared_outbox.specs.Table.{desk_of, ArePuttersOf, IsAnyTakerOf}
 use Rattle.scp_threaded_node.specs.Kv.{Node}
 use Rattle.scp_threaded_node.specs.declared.node.Source.{Source}
 use Rattle.scp_threaded_node.specs.Outlets.{GivenEnds, given_to}

@@ -1,8 +1,8 @@
 -- What the lines of a script did to running nodes.
 use Rattle.std.specs.Prelude.{◌≡◌, ℕ, ◌+◌, ◌-◌, List, [], ◌∷◌, length, Option, None, Some, slice_get, slice_set, if◌then◌else◌, nat_eq}
-use Rattle.scp_wire.specs.declared.link.Command.{Command as LocalCommand}
-use Rattle.scp_wire.specs.declared.link.Inbound.{Inbound}
-use Rattle.scp_wire.specs.declared.link.Inbound.TheVariants as inbound
+use Rattle.scp_threaded_node.specs.scp_wire.specs.declared.link.Command.{Command as LocalCommand}
+use Rattle.scp_threaded_node.specs.scp_wire.specs.declared.link.Inbound.{Inbound}
+use Rattle.scp_threaded_node.specs.scp_wire.specs.declared.link.Inbound.TheVariants as inbound
 use Rattle.scp_script.specs.declared.command.Command.{Command}
 use Rattle.scp_script.specs.declared.command.Command.TheVariants as script
 use Rattle.scp_script.specs.Script.{node_count}
@@ -11,7 +11,7 @@ use Rattle.scp_threaded_node.specs.Kv.{Node}
 use Rattle.scp_threaded_node.specs.Acting.{with_command, ActsAt, IsUnchanged}
 use Rattle.scp_threaded_node.specs.Seats.{Each, AreDriven}
 use Rattle.scp_threaded_script.specs.Lines.{link_of, driven_to, items_to, command_by, commands_for}
-pub use Rattle.scp_shared_outbox.specs.Places.{AreTwoOf}
+pub use Rattle.scp_threaded_node.specs.scp_shared_outbox.specs.Places.{AreTwoOf}
 use Rattle.scp_threaded_script.specs.Reported.{AllRunSoFar, IsOneOf}
 
 -- ---- all nodes

@@ -1,17 +1,17 @@
 -- What is shown of a line, as the code does it.
 -- No public clause reaches these definitions: nothing here need be believed.
 use Rattle.std.specs.Prelude.{ℕ, ◌+◌, ◌-◌, ◌<◌, ◌≡◌, ◌⊎◌, ◌||◌, Bool, true, false, List, [], ◌++◌, Option, Some, None, length, slice_get, string_bytes, take}
-use Rattle.scp_core.specs.declared.event.Event.{Event}
-use Rattle.scp_core.specs.declared.event.Reply.{Reply}
-use Rattle.scp_core.specs.Kv.{NodeView}
-use Rattle.scp_turn.specs.Heard.{Nodes as NodeList}
-use Rattle.scp_script.specs.declared.command.Command.{Command}
-use Rattle.scp_script.specs.declared.command.Command.TheVariants.{Report}
+use Rattle.scp_line.specs.scp_core.specs.declared.event.Event.{Event}
+use Rattle.scp_line.specs.scp_core.specs.declared.event.Reply.{Reply}
+use Rattle.scp_line.specs.scp_core.specs.Kv.{NodeView}
+use Rattle.scp_line.specs.scp_turn.specs.Heard.{Nodes as NodeList}
+use Rattle.scp_line.specs.scp_script.specs.declared.command.Command.{Command}
+use Rattle.scp_line.specs.scp_script.specs.declared.command.Command.TheVariants.{Report}
 use Rattle.scp_line.specs.Player.{Lining}
-use Rattle.scp_stand_slot.specs.declared.names.Names.{Names}
-use Rattle.scp_facts.specs.declared.fact.Telling.{Telling}
-use Rattle.scp_facts.specs.Telling.{Tells}
-use Rattle.scp_facts.specs.Watching.{WatchView, Awaits, TellsStep}
+use Rattle.scp_stand_node.specs.scp_stand_slot.specs.declared.names.Names.{Names}
+use Rattle.scp_trace_text.specs.scp_facts.specs.declared.fact.Telling.{Telling}
+use Rattle.scp_trace_text.specs.scp_facts.specs.Telling.{Tells}
+use Rattle.scp_trace_text.specs.scp_facts.specs.Watching.{WatchView, Awaits, TellsStep}
 use Rattle.scp_trace.specs.declared.depth.Depth.{Depth}
 use Rattle.scp_trace.specs.declared.depth.Depth.TheVariants.{Stands, Whole}
 use Rattle.scp_trace.specs.declared.tracing.TraceWatch.{TraceWatch}

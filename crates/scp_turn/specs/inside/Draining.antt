@@ -1,8 +1,8 @@
 -- How what waits goes out, link by link.
 -- No public clause reaches these definitions: nothing here need be believed.
 use Rattle.std.specs.Prelude.{ℕ, ◌≡◌, ◌≢◌, ◌≤◌, List, ◌++◌, Result, OnOk}
-use Rattle.scp_driver.specs.Driver.{Says}
-use Rattle.scp_types.specs.declared.fault.Fault.{Fault}
+use Rattle.scp_core.specs.scp_driver.specs.Driver.{Says}
+use Rattle.scp_core.specs.scp_types.specs.declared.fault.Fault.{Fault}
 use Rattle.scp_core.specs.declared.event.Event.{Event}
 use Rattle.scp_core.specs.declared.event.Reply.{Reply}
 use Rattle.scp_core.specs.History.{Exchange}

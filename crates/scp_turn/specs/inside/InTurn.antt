@@ -1,7 +1,7 @@
 -- How the commands that were taken stay the first of those that were given, step by step.
 use Rattle.std.specs.Prelude.{List, [], ◌++◌}
-use Rattle.scp_driver.specs.Driver.{Says}
-use Rattle.scp_wire.specs.declared.link.Command.{Command}
+use Rattle.scp_core.specs.scp_driver.specs.Driver.{Says}
+use Rattle.scp_core.specs.scp_wire.specs.declared.link.Command.{Command}
 use Rattle.scp_core.specs.declared.event.Event.{Event}
 use Rattle.scp_core.specs.declared.event.Reply.{Reply}
 use Rattle.scp_core.specs.History.{Exchange}

@@ -1,7 +1,7 @@
 -- Boards that are alike, and the own statements of a board, one after the other.
 -- No public clause reaches this: nothing here need be believed.
 use Rattle.std.specs.Prelude.{◌≡◌, Option}
-use Rattle.scp_types.specs.declared.names.NodeId.{NodeId}
+use Rattle.scp_quorum.specs.scp_types.specs.declared.names.NodeId.{NodeId}
 use Rattle.scp_envelope.specs.declared.statement.Pledges.{Pledges}
 use Rattle.scp_vote.specs.Board.{Seen, KeepsOwn}
 use Rattle.scp_vote.specs.Licence.{with_own, Licensed}

@@ -1,9 +1,9 @@
 -- How what is handed out gets into the links' outboxes.
 -- No public clause reaches these definitions: nothing here need be believed.
 use Rattle.std.specs.Prelude.{◌≡◌, ◌⊎◌, ℕ, List, [], ◌∷◌, ◌++◌, Some, None, slice_get, slice_set}
-use Rattle.scp_wire.specs.declared.message.Message.{Message}
+use Rattle.scp_theorem.specs.scp_wire.specs.declared.message.Message.{Message}
 use Rattle.scp_shared_outbox.specs.Ends.{PutterView}
-use Rattle.scp_ledger.specs.declared.took.Outgoing.{Outgoing}
+use Rattle.scp_theorem.specs.scp_ledger.specs.declared.took.Outgoing.{Outgoing}
 use Rattle.scp_theorem.specs.Handed.{handed_by}
 
 -- what is handed out for each link was put there, after what was put before

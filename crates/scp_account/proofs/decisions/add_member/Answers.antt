@@ -2,7 +2,7 @@ use Rattle.std.proofs.Common.{◌∙◌, None, map, sym, subst}
 use Rattle.std.proofs.lemmas.List.Elements.{All-filter}
 use Rattle.std.specs.Prelude.{filter, option_map}
 use Rattle.serde_json.specs.View.{view}
-use Rattle.scp_ledger.specs.Journal.{fresh_heard}
+use Rattle.scp_line.specs.scp_ledger.specs.Journal.{fresh_heard}
 use Rattle.scp_account.specs.Fits.{FitsEntry}
 use Rattle.scp_account.specs.inside.Spoken.{is_its, FitsIf}
 use Rattle.scp_account.proofs.Grounds.{on_ok, fits_last, member_added}

@@ -1,6 +1,6 @@
 use Rattle.std.proofs.Common.{◌∙◌, Bor, List, ap, map, subst, sym}
 use Rattle.std.specs.Prelude.{All}
-use Rattle.scp_ledger.specs.declared.journal.Fate.{Fate}
+use Rattle.scp_line.specs.scp_ledger.specs.declared.journal.Fate.{Fate}
 use Rattle.scp_account.specs.Fits.{FitsEntry}
 use Rattle.scp_account.specs.inside.Spoken.{entries_or_none}
 use Rattle.scp_account.proofs.decisions.decision_value.Goals as goal

@@ -1,6 +1,6 @@
 use Rattle.std.proofs.Common.{subst, sym, arith}
 use Rattle.std.proofs.lemmas.Result.{err_from_is_err_and}
-use Rattle.scp_ledger.specs.declared.journal.Decision.{Decision}
+use Rattle.scp_line.specs.scp_ledger.specs.declared.journal.Decision.{Decision}
 use Rattle.scp_account.specs.Fits.{FitsOrigin}
 use Rattle.scp_account.proofs.decisions.decision_values.Goals as goal
 

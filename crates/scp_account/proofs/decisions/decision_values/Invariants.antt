@@ -1,6 +1,6 @@
 use Rattle.std.proofs.Common.{◌≡◌, ◌++◌, ℕ, List, map, drop}
 use Rattle.serde_json.specs.View.{view}
-use Rattle.scp_ledger.specs.declared.journal.Fate.{Fate}
+use Rattle.scp_line.specs.scp_ledger.specs.declared.journal.Fate.{Fate}
 use Rattle.scp_account.specs.Decisions.{decision_json}
 use Rattle.scp_account.specs.inside.Spoken.{spoken, spoken_at}
 use Rattle.scp_account.proofs.decisions.decision_values.Given as goal

@@ -1,7 +1,7 @@
 use Rattle.std.proofs.Common.{◌≡◌, ◌++◌, ℕ, List, map, drop}
 use Rattle.std.specs.Prelude.{flat_map}
 use Rattle.serde_json.specs.View.{view}
-use Rattle.scp_ledger.specs.declared.journal.Fate.{Fate}
+use Rattle.scp_line.specs.scp_ledger.specs.declared.journal.Fate.{Fate}
 use Rattle.scp_account.specs.Decisions.{ground_of}
 use Rattle.scp_account.specs.inside.Spoken.{AreSpoken}
 use Rattle.scp_account.proofs.decisions.grounds.Given as goal

@@ -1,8 +1,8 @@
 use Rattle.std.proofs.Common.{List, subst, sym}
 use Rattle.std.specs.Prelude.{All}
 use Rattle.std.proofs.lemmas.List.Elements.{All-filter}
-use Rattle.scp_ledger.specs.declared.journal.Fate.{Fate}
-use Rattle.scp_ledger.specs.Journal.{fresh_heard}
+use Rattle.scp_line.specs.scp_ledger.specs.declared.journal.Fate.{Fate}
+use Rattle.scp_line.specs.scp_ledger.specs.Journal.{fresh_heard}
 use Rattle.scp_account.specs.Fits.{FitsEntry}
 use Rattle.scp_account.specs.inside.Spoken.{is_in_slot}
 use Rattle.scp_account.proofs.node.decisions.Goals as goal

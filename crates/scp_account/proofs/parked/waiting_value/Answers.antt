@@ -1,6 +1,6 @@
 use Rattle.std.proofs.Common.{subst, sym}
 use Rattle.std.proofs.lemmas.Result.{err_from_is_err_and}
-use Rattle.scp_wire.specs.Fitting.{IsFitting}
+use Rattle.scp_line.specs.scp_wire.specs.Fitting.{IsFitting}
 use Rattle.scp_account.proofs.parked.waiting_value.Goals as goal
 
 pub returns-in_err-bytes-clause-only_memory : goal.returns-in_err-bytes-clause-only_memory

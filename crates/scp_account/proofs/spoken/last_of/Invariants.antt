@@ -1,6 +1,6 @@
 use Rattle.std.proofs.Common.{◌≡◌, map, take}
 use Rattle.std.specs.Prelude.{filter, option_map}
-use Rattle.scp_ledger.specs.Journal.{fresh_heard}
+use Rattle.scp_line.specs.scp_ledger.specs.Journal.{fresh_heard}
 use Rattle.scp_account.specs.Spoken.{last_of}
 use Rattle.scp_account.specs.inside.Spoken.{is_its}
 use Rattle.scp_account.proofs.spoken.last_of.Given as goal

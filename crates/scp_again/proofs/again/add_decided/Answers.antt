@@ -1,6 +1,6 @@
 use Rattle.std.proofs.Common.{◌≡◌, ◌++◌, List, sym, subst, append-nil, arith}
 use Rattle.std.specs.Prelude.{flat_map}
-use Rattle.scp_ledger.specs.declared.journal.Decision.{Decision}
+use Rattle.scp_core.specs.scp_ledger.specs.declared.journal.Decision.{Decision}
 use Rattle.scp_again.specs.Again.{own_of}
 use Rattle.scp_again.proofs.Adding.{added_more, added_all}
 use Rattle.scp_again.proofs.again.add_decided.Goals as goal

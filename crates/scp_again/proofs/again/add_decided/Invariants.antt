@@ -1,5 +1,5 @@
 use Rattle.std.specs.Prelude.{◌≡◌, ◌++◌, flat_map, take}
-use Rattle.scp_ledger.specs.declared.journal.Decision.{Decision}
+use Rattle.scp_core.specs.scp_ledger.specs.declared.journal.Decision.{Decision}
 use Rattle.scp_again.specs.Again.{own_of}
 use Rattle.scp_again.proofs.again.add_decided.Given as goal
 

@@ -1,9 +1,9 @@
 use Rattle.std.proofs.Common.{◌≡◌, ◌++◌, subst}
 use Rattle.std.specs.Prelude.{Option, OnOk}
 use Rattle.std.proofs.lemmas.Result.{on_ok_weaker}
-use Rattle.scp_envelope.specs.declared.statement.Pledges.{Pledges}
-use Rattle.scp_nominate.specs.Nomination.{own}
-use Rattle.scp_slot.specs.Slot.{slot_view}
+use Rattle.scp_core.specs.scp_envelope.specs.declared.statement.Pledges.{Pledges}
+use Rattle.scp_core.specs.scp_nominate.specs.Nomination.{own}
+use Rattle.scp_core.specs.scp_slot.specs.Slot.{slot_view}
 use Rattle.scp_again.specs.Again.{own_messages}
 use Rattle.scp_again.proofs.Adding.{added_on}
 use Rattle.scp_again.proofs.again.add_machine.Goals as goal

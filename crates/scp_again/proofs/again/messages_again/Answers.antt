@@ -1,5 +1,5 @@
 use Rattle.std.proofs.Common.{◌≡◌, ◌++◌, ℕ, subst, arith}
-use Rattle.scp_types.specs.declared.limits.TheConstants.{WINDOW}
+use Rattle.scp_core.specs.scp_types.specs.declared.limits.TheConstants.{WINDOW}
 use Rattle.scp_again.specs.Again.{decided_again, slots_again}
 use Rattle.scp_again.proofs.again.messages_again.Goals as goal
 

@@ -1,6 +1,6 @@
 use Rattle.std.proofs.Common.{◌∙◌, ap}
-use Rattle.scp_vote.specs.Board.{Seen}
-use Rattle.scp_nominate.specs.Nomination.{Nomination}
+use Rattle.scp_core.specs.scp_vote.specs.Board.{Seen}
+use Rattle.scp_core.specs.scp_nominate.specs.Nomination.{Nomination}
 use Rattle.scp_again.proofs.again.nominated.Goals as goal
 
 pub returns : goal.returns

@@ -1,7 +1,7 @@
 use Rattle.std.proofs.Common.{IfSome, IfNone, List, ℕ, subst}
-use Rattle.scp_quorum.specs.NodeSet.{is_in}
-use Rattle.scp_vote.specs.Board.{Certificate, Confirmed}
-use Rattle.scp_vote.specs.declared.claim.Claim.TheVariants.{Committed}
+use Rattle.scp_ballot_rules.specs.scp_quorum.specs.NodeSet.{is_in}
+use Rattle.scp_ballot_rules.specs.scp_vote.specs.Board.{Certificate, Confirmed}
+use Rattle.scp_ballot_rules.specs.scp_vote.specs.declared.claim.Claim.TheVariants.{Committed}
 use Rattle.scp_ballot_rules.specs.Told.{ballots_on}
 use Rattle.scp_ballot.proofs.giving.certificate.Goals as goal
 

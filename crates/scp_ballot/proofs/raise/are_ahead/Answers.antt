@@ -1,7 +1,7 @@
 use Rattle.std.proofs.Common.{◌↔◌, IsTrue, subst}
-use Rattle.scp_quorum.specs.NodeSet.{is_in}
-use Rattle.scp_quorum.specs.QuorumTree.{QuorumTree}
-use Rattle.scp_quorum.specs.Satisfies.{Blocks}
+use Rattle.scp_ballot_rules.specs.scp_quorum.specs.NodeSet.{is_in}
+use Rattle.scp_ballot_rules.specs.scp_quorum.specs.QuorumTree.{QuorumTree}
+use Rattle.scp_ballot_rules.specs.scp_quorum.specs.Satisfies.{Blocks}
 use Rattle.scp_ballot_rules.specs.Told.{ballots_on}
 use Rattle.scp_ballot.proofs.Aheads.{ahead_by, nobody_ahead}
 use Rattle.scp_ballot.proofs.raise.are_ahead.Goals as goal

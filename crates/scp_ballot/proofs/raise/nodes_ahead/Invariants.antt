@@ -1,4 +1,4 @@
-use Rattle.scp_quorum.specs.NodeSet.{is_in}
+use Rattle.scp_ballot_rules.specs.scp_quorum.specs.NodeSet.{is_in}
 use Rattle.scp_ballot_rules.specs.Told.{ballots_on}
 use Rattle.scp_ballot.proofs.Aheads.{IsPickingAhead}
 use Rattle.scp_ballot.proofs.raise.nodes_ahead.Given as goal

@@ -1,5 +1,5 @@
 use Rattle.std.proofs.Common.{ℕ, Option, IfSome, rules}
-use Rattle.scp_types.specs.declared.names.NodeId.{NodeId}
+use Rattle.scp_ballot_rules.specs.scp_types.specs.declared.names.NodeId.{NodeId}
 use Rattle.scp_ballot_rules.specs.Told.{ballots_on}
 use Rattle.scp_ballot.specs.inside.Ahead.{IsAhead}
 use Rattle.scp_ballot.proofs.Aheads.{least_free}

@@ -2,7 +2,7 @@ use Rattle.std.proofs.Common.{◌≡◌, ◌<◌, ℕ, List, Contains, IfNone, I
 use Rattle.scp_ballot_rules.specs.declared.finding.Bound.TheVariants.{Of}
 use Rattle.scp_ballot_rules.specs.declared.told.Stage.TheVariants.{Acceptance}
 use Rattle.scp_ballot_rules.specs.inside.Finding.{IsExactRange}
-use Rattle.scp_types.specs.declared.ballot.Ballot.{Ballot}
+use Rattle.scp_vote.specs.scp_types.specs.declared.ballot.Ballot.{Ballot}
 use Rattle.scp_vote.specs.declared.claim.Claim.TheVariants.{Committed}
 use Rattle.scp_vote.specs.Board.{Accepted}
 use Rattle.scp_ballot_rules.specs.Told.{ballots_on}

@@ -1,5 +1,5 @@
 use Rattle.std.proofs.Common.{sym, subst}
-use Rattle.scp_envelope.specs.declared.statement.Pledges.{Pledges}
+use Rattle.scp_vote.specs.scp_envelope.specs.declared.statement.Pledges.{Pledges}
 use Rattle.scp_ballot_rules.specs.Owed.{Names}
 use Rattle.scp_ballot_rules.specs.inside.Finding.{Adds}
 use Rattle.scp_ballot_rules.proofs.candidates.add_named.Goals as goal

@@ -1,5 +1,5 @@
 use Rattle.std.proofs.Common.{◌≡◌, Some, ◌⊎◌}
-use Rattle.scp_types.specs.declared.ballot.Ballot.{Ballot}
+use Rattle.scp_vote.specs.scp_types.specs.declared.ballot.Ballot.{Ballot}
 use Rattle.scp_ballot_rules.proofs.Adding.{adds_then}
 use Rattle.scp_ballot_rules.proofs.candidates.add_prepare.Goals as goal
 

@@ -3,9 +3,9 @@ use Rattle.std.specs.Option.{option_map}
 use Rattle.std.specs.BTreeMap as node_map
 use Rattle.std.specs.Map.Iter.{deref_pair}
 use Rattle.std.proofs.lemmas.Map.Views.{All-turn}
-use Rattle.scp_quorum.specs.NodeSet.{node_cmp}
-use Rattle.scp_types.specs.declared.ballot.Ballot.{Ballot}
-use Rattle.scp_envelope.specs.declared.statement.Pledges.{Pledges}
+use Rattle.scp_vote.specs.scp_quorum.specs.NodeSet.{node_cmp}
+use Rattle.scp_vote.specs.scp_types.specs.declared.ballot.Ballot.{Ballot}
+use Rattle.scp_vote.specs.scp_envelope.specs.declared.statement.Pledges.{Pledges}
 use Rattle.scp_vote.specs.declared.statements.Entry.{Entry}
 use Rattle.scp_ballot_rules.specs.Owed.{Names}
 use Rattle.scp_ballot_rules.specs.Told.{ballots_on}

@@ -1,4 +1,4 @@
-use Rattle.scp_envelope.specs.Ballots.{IsLess}
+use Rattle.scp_vote.specs.scp_envelope.specs.Ballots.{IsLess}
 use Rattle.scp_ballot_rules.proofs.Stepping.{joins_below, refuted}
 use Rattle.scp_ballot_rules.proofs.confirm_prepared.join_present.Goals as goal
 

@@ -1,5 +1,5 @@
 use Rattle.std.proofs.Common.{◌≡◌, ◌≢◌}
-use Rattle.scp_types.specs.declared.ballot.Ballot.{Ballot}
+use Rattle.scp_vote.specs.scp_types.specs.declared.ballot.Ballot.{Ballot}
 use Rattle.scp_vote.specs.declared.claim.Claim.TheVariants.{Prepared}
 use Rattle.scp_vote.specs.Board.{Confirmed}
 use Rattle.scp_ballot_rules.specs.Order.{IsAbove}

@@ -1,5 +1,5 @@
 use Rattle.std.proofs.Common.{List, ℕ, subst}
-use Rattle.scp_script_check.specs.Lines.{IsNotRead}
+use Rattle.scp_notices.specs.scp_script_check.specs.Lines.{IsNotRead}
 use Rattle.scp_command.proofs.Causing.{read_cause}
 use Rattle.scp_command.proofs.given.commands_of.Goals as goal
 

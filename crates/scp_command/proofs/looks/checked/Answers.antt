@@ -1,6 +1,6 @@
 use Rattle.std.proofs.Common.{List, ℕ, subst}
 use Rattle.scp_script_hints.specs.Hints.{AreHints}
-use Rattle.scp_script_check.specs.Warnings.{AreWarnings}
+use Rattle.scp_notices.specs.scp_script_check.specs.Warnings.{AreWarnings}
 use Rattle.scp_command.specs.Answers.{IsJust}
 use Rattle.scp_command.proofs.looks.checked.Goals as goal
 

@@ -1,5 +1,5 @@
 use Rattle.std.proofs.Common.{List, subst, string_bytes}
-use Rattle.scp_script.specs.declared.command.Command.{Command}
+use Rattle.scp_script_hints.specs.scp_script.specs.declared.command.Command.{Command}
 use Rattle.scp_script_hints.specs.Told.{members_in, TellsQuorums}
 use Rattle.scp_command.proofs.looks.quorums.Goals as goal
 

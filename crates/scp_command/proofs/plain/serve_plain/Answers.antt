@@ -1,6 +1,6 @@
 use Rattle.std.proofs.Common.{List, ℕ, inl, inr, subst, length, ◌≤◌}
-use Rattle.scp_types.specs.declared.limits.TheConstants.{SCRIPT_LIMIT}
-use Rattle.scp_device.specs.Device.{Gains, IsAll}
+use Rattle.scp_script_short.specs.scp_types.specs.declared.limits.TheConstants.{SCRIPT_LIMIT}
+use Rattle.scp_script_short.specs.scp_device.specs.Device.{Gains, IsAll}
 use Rattle.scp_command.specs.declared.plain.Telling.{Telling}
 use Rattle.scp_command.specs.inside.Plain.{IsTelling}
 use Rattle.scp_command.proofs.plain.serve_plain.Goals as goal

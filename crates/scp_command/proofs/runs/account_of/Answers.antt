@@ -1,6 +1,6 @@
 use Rattle.std.proofs.Common.{◌∙◌, ap}
 use Rattle.scp_notices.specs.scp_line.specs.declared.playing.PlayFault.{PlayFault}
-use Rattle.scp_report.specs.Node.{reports_of}
+use Rattle.scp_notices.specs.scp_report.specs.Node.{reports_of}
 use Rattle.scp_command.proofs.Accounting.{nodes_untold}
 use Rattle.scp_command.proofs.runs.account_of.Goals as goal
 

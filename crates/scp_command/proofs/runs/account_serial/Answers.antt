@@ -1,15 +1,15 @@
 use Rattle.std.proofs.Common.{◌≡◌, ◌≤◌, ◌∙◌, ℕ, List, length, ap, subst, sym, string_bytes}
-use Rattle.scp_types.specs.declared.limits.TheConstants.{NODE_LIMIT}
-use Rattle.scp_turn.specs.Heard.{Nodes}
-use Rattle.scp_report.specs.Node.{reports_of}
+use Rattle.scp_script_short.specs.scp_types.specs.declared.limits.TheConstants.{NODE_LIMIT}
+use Rattle.scp_notices.specs.scp_turn.specs.Heard.{Nodes}
+use Rattle.scp_notices.specs.scp_report.specs.Node.{reports_of}
 use Rattle.scp_account.specs.declared.node.Mode.TheVariants as ways
 use Rattle.scp_account.specs.Account.{account_text}
-use Rattle.scp_account.specs.scp_facts.specs.declared.happening.Kept.{Kept}
-use Rattle.scp_account.specs.scp_facts.specs.Keeping.{WatchView}
+use Rattle.scp_draw.specs.scp_facts.specs.declared.happening.Kept.{Kept}
+use Rattle.scp_draw.specs.scp_facts.specs.Keeping.{WatchView}
 use Rattle.scp_account.specs.Run.{keeping}
 use Rattle.scp_notices.specs.scp_line.specs.declared.watch.Steps.{Steps}
-use Rattle.scp_prompt.specs.declared.asked.Mode.TheVariants.{Serial}
-use Rattle.scp_prompt.specs.declared.asked.Shape.TheVariants.{Settled}
+use Rattle.scp_convert.specs.scp_prompt.specs.declared.asked.Mode.TheVariants.{Serial}
+use Rattle.scp_convert.specs.scp_prompt.specs.declared.asked.Shape.TheVariants.{Settled}
 use Rattle.scp_notices.specs.Run.{noticing, nothing_noted, IsRan, IsRunFault, IsWatched}
 use Rattle.scp_notices.proofs.Runs.{few_ran}
 use Rattle.scp_command.specs.inside.Runs.{IsUntold}

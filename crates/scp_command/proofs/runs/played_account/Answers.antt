@@ -1,8 +1,8 @@
 use Rattle.std.proofs.Common.{◌≡◌, ◌∙◌, List, ap, map, subst, sym}
 use Rattle.std.specs.Prelude.{All}
 use Rattle.std.proofs.lemmas.Result.{err_from_is_err_and}
-use Rattle.scp_report.specs.declared.report.Report.{Report}
-use Rattle.scp_report.specs.Report.{ReportView, view_of}
+use Rattle.scp_notices.specs.scp_report.specs.declared.report.Report.{Report}
+use Rattle.scp_notices.specs.scp_report.specs.Report.{ReportView, view_of}
 use Rattle.scp_account.specs.Fits.{FitsNode}
 use Rattle.scp_command.proofs.runs.played_account.Goals as goal
 

@@ -1,8 +1,8 @@
 use Rattle.std.proofs.Common.{◌++◌, ◌∙◌, ap, rules}
 use Rattle.std.specs.Prelude.{Option, option_to_list}
 use Rattle.std.proofs.lemmas.Result.{on_ok_weaker, on_err_weaker}
-use Rattle.scp_ledger.specs.declared.took.Outgoing.{Outgoing}
-use Rattle.scp_ledger.specs.Fitting.{FitsOut}
+use Rattle.scp_theorem.specs.scp_ledger.specs.declared.took.Outgoing.{Outgoing}
+use Rattle.scp_theorem.specs.scp_ledger.specs.Fitting.{FitsOut}
 use Rattle.scp_core.proofs.Staging.{hands_last, any_before, any_last, all_before, all_last}
 use Rattle.scp_core.proofs.handing.+hand_out_rest.Goals as goal
 

@@ -1,5 +1,5 @@
 use Rattle.std.proofs.Common.{List, sym, subst, string_bytes}
-use Rattle.scp_script.specs.declared.command.Command.{Command}
+use Rattle.scp_trace.specs.scp_script.specs.declared.command.Command.{Command}
 use Rattle.scp_trace.specs.scp_line.specs.Nodes.{HasPlayed}
 use Rattle.scp_draw.proofs.Pages.{is_page}
 use Rattle.scp_draw.proofs.drawing.page_of.Goals as goal

@@ -1,7 +1,7 @@
 use Rattle.std.proofs.Common.{ap}
 use Rattle.std.specs.Prelude.{Some, None}
 use Rattle.std.proofs.lemmas.Result.{IfOk-weaker}
-use Rattle.scp_facts.specs.Watching.{WatchView}
+use Rattle.scp_trace.specs.scp_facts.specs.Watching.{WatchView}
 use Rattle.scp_draw.specs.declared.playing.LineFacts.{LineFacts}
 use Rattle.scp_draw.specs.Lines.{IsToldTo}
 use Rattle.scp_draw.specs.inside.Leaving.{IsLeft}

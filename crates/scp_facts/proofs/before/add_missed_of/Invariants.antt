@@ -1,5 +1,5 @@
 use Rattle.std.proofs.Common.{◌≡◌, ◌++◌, map, drop}
-use Rattle.scp_wire.specs.declared.side.SideMessage.TheVariants.{NoSet}
+use Rattle.scp_turn.specs.scp_wire.specs.declared.side.SideMessage.TheVariants.{NoSet}
 use Rattle.scp_facts.specs.Facts.{missed_by}
 use Rattle.scp_facts.proofs.before.add_missed_of.Given as goal
 

@@ -1,14 +1,14 @@
-use Rattle.std.proofs.Common.{List, sym, ap, ◌∙◌, subst}
-use Rattle.scp_wire.specs.declared.link.Inbound.{Inbound}
-use Rattle.scp_pending.specs.Messages.{AreParked}
-use Rattle.scp_pending.specs.Pends.{Pends}
-use Rattle.scp_pending.specs.Rules.{PendingView}
-use Rattle.scp_apply.specs.Applied.{made_of}
-use Rattle.scp_apply.specs.Applier.{ApplierView}
-use Rattle.scp_ends.specs.Order.{values}
-use Rattle.scp_ledger.specs.declared.journal.Decision.{Decision}
-use Rattle.scp_ledger.specs.declared.took.CommandFate.{CommandFate}
-use Rattle.scp_ledger.specs.Seen.{LedgerView}
+use Rattle.std.proofs.Common.{◌≡◌, ℕ, List, [], sym, ap, ◌∙◌, subst}
+use Rattle.scp_workers.specs.scp_wire.specs.declared.link.Inbound.{Inbound}
+use Rattle.scp_workers.specs.scp_pending.specs.Messages.{AreParked}
+use Rattle.scp_workers.specs.scp_pending.specs.Pends.{Pends}
+use Rattle.scp_workers.specs.scp_pending.specs.Rules.{PendingView}
+use Rattle.scp_workers.specs.scp_apply.specs.Applied.{made_of}
+use Rattle.scp_workers.specs.scp_apply.specs.Applier.{ApplierView}
+use Rattle.scp_workers.specs.scp_ends.specs.Order.{values}
+use Rattle.scp_workers.specs.scp_ledger.specs.declared.journal.Decision.{Decision}
+use Rattle.scp_workers.specs.scp_ledger.specs.declared.took.CommandFate.{CommandFate}
+use Rattle.scp_workers.specs.scp_ledger.specs.Seen.{LedgerView}
 use Rattle.scp_gather.specs.Report.{AreFatesOf}
 use Rattle.scp_gather.proofs.Putting.{put_out, fates_of_node}
 use Rattle.scp_gather.proofs.Joining.{node_pends}
@@ -37,7 +37,10 @@ returns-clause-theorem g c = λ me set peers n.
 pub returns-clause-state : goal.returns-clause-state
 returns-clause-state g c =
     let told = c.in_ok-report.ensures in
-    told.applied.1 ∙ ap (λ (ds : List Decision). made_of g.A.Application.first g.A.Application.after ds) (sym told.applied.0)
+    let none : c.in_ok-pending.field-0.applier.base ≡ [] = ap (λ (v : ApplierView). v.base) c.in_ok-pending.ensures.parts.2 ∙ c.in_ok-pending.ensures.ended.applies.all.no_base in
+    told.applied.1 ∙ ap (λ (ds : List Decision). made_of (g.A.Application.begins c.in_ok-pending.field-0.applier.base) g.A.Application.after ds) (sym told.applied.0)
+    ∙ ap (λ (base : List ℕ). made_of (g.A.Application.begins base) g.A.Application.after c.in_ok-report.report.applied.items) none
+    ∙ ap (λ (state : _). made_of state g.A.Application.after c.in_ok-report.report.applied.items) g.met.A.Application.begins_first
 
 pub returns-clause-headline : goal.returns-clause-headline
 returns-clause-headline g c = λ me set peers n.

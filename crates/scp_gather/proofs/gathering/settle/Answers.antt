@@ -1,10 +1,10 @@
 use Rattle.std.proofs.Common.{◌≡◌, sym, ap, ◌∙◌, subst}
 use Rattle.std.specs.Prelude.{Some, None}
 use Rattle.std.proofs.lemmas.Result.{err_from_is_err_and}
-use Rattle.scp_wire.specs.declared.link.Inbound.{Inbound}
-use Rattle.scp_pending.specs.declared.ready.Ready.{Ready}
-use Rattle.scp_ledger.specs.declared.took.Onward.{Onward}
-use Rattle.scp_ends.specs.Ends.{Sender, Receiver, IsQueued}
+use Rattle.scp_workers.specs.scp_wire.specs.declared.link.Inbound.{Inbound}
+use Rattle.scp_workers.specs.scp_pending.specs.declared.ready.Ready.{Ready}
+use Rattle.scp_workers.specs.scp_ledger.specs.declared.took.Onward.{Onward}
+use Rattle.scp_workers.specs.scp_ends.specs.Ends.{Sender, Receiver, IsQueued}
 use Rattle.scp_gather.specs.Node.{IsReadOut, EndWell}
 use Rattle.scp_gather.specs.Report.{IsJoined, AreJoined}
 use Rattle.scp_gather.proofs.Settling.{AllWell, none_failed}

@@ -3,10 +3,10 @@ use Rattle.std.specs.Prelude.{Option, Some, map, slice_get}
 use Rattle.std.specs.Global.{Vec}
 use Rattle.std.specs.List.{AllZip}
 use Rattle.std.proofs.lemmas.List.{map-append, nil_from_length}
-use Rattle.scp_ends.specs.Ends.{Receiver}
-use Rattle.scp_ends.specs.Links.{LinkEnd}
-use Rattle.scp_wire.specs.declared.link.Inbound.{Inbound}
-use Rattle.scp_wire.specs.declared.link.LinkItem.{LinkItem}
+use Rattle.scp_workers.specs.scp_ends.specs.Ends.{Receiver}
+use Rattle.scp_workers.specs.scp_ends.specs.Links.{LinkEnd}
+use Rattle.scp_workers.specs.scp_wire.specs.declared.link.Inbound.{Inbound}
+use Rattle.scp_workers.specs.scp_wire.specs.declared.link.LinkItem.{LinkItem}
 use Rattle.scp_workers.specs.Reading.{ReaderEnd}
 use Rattle.scp_gather.specs.Node.{IsReadOut}
 use Rattle.scp_gather.specs.Report.{IsJoined}

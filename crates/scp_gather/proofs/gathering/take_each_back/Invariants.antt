@@ -1,7 +1,7 @@
 use Rattle.std.proofs.Common.{◌≡◌, List, ◌++◌}
 use Rattle.std.specs.Prelude.{map}
 use Rattle.std.specs.List.{AllZip}
-use Rattle.scp_ends.specs.Links.{LinkEnd}
+use Rattle.scp_workers.specs.scp_ends.specs.Links.{LinkEnd}
 use Rattle.scp_gather.specs.Node.{IsReadOut}
 use Rattle.scp_gather.specs.inside.Kept.{kept_by}
 use Rattle.scp_gather.proofs.gathering.take_each_back.Given as goal

@@ -1,8 +1,8 @@
 use Rattle.std.proofs.Common.{subst}
-use Rattle.scp_envelope.specs.Kinds.{envelope_kind, envelope_value}
-use Rattle.scp_envelope.specs.Short.{IsShort}
-use Rattle.scp_envelope.specs.declared.statement.Envelope.{Envelope}
-use Rattle.scp_xdr.specs.Kind.{Fits}
+use Rattle.scp_slot.specs.scp_envelope.specs.Kinds.{envelope_kind, envelope_value}
+use Rattle.scp_slot.specs.scp_envelope.specs.Short.{IsShort}
+use Rattle.scp_slot.specs.scp_envelope.specs.declared.statement.Envelope.{Envelope}
+use Rattle.scp_slot.specs.scp_xdr.specs.Kind.{Fits}
 use Rattle.scp_ledger.proofs.lists.to_each.Goals as goal
 
 pub returns-clause-fits : goal.returns-clause-fits

@@ -1,6 +1,6 @@
 use Rattle.std.proofs.Common.{◌≡◌, fold, drop}
 use Rattle.std.specs.BTreeSet.{insert_key}
-use Rattle.scp_types.specs.Order.{conn_cmp}
+use Rattle.scp_turn.specs.scp_types.specs.Order.{conn_cmp}
 use Rattle.scp_line.specs.Left.{conns_waiting}
 use Rattle.scp_line.proofs.left.conns_of.Given as goal
 

@@ -1,7 +1,7 @@
 use Rattle.std.proofs.Common.{ℕ, None, ap, rules}
 use Rattle.std.proofs.lemmas.Iterator.{YieldsList-from_slice}
 use Rattle.std.proofs.lemmas.Iterator.Consumers.{YieldsList-from_filter, YieldsList-at, count_from_yields_List}
-use Rattle.scp_pending.specs.Messages.{is_on}
+use Rattle.scp_turn.specs.scp_pending.specs.Messages.{is_on}
 use Rattle.scp_report.specs.declared.report.Parked.{Parked}
 use Rattle.scp_line.proofs.left.count_of.Goals as goal
 

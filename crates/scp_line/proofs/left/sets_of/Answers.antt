@@ -1,6 +1,6 @@
 use Rattle.std.proofs.Common.{◌≡◌, ◌+◌, ◌++◌, ◌∷◌, [], ◌∙◌, List, ap, sym}
-use Rattle.scp_quorum.specs.QuorumTree.{QuorumTree}
-use Rattle.scp_script.specs.Nodes.{set_at}
+use Rattle.scp_turn.specs.scp_quorum.specs.QuorumTree.{QuorumTree}
+use Rattle.scp_report.specs.scp_script.specs.Nodes.{set_at}
 use Rattle.scp_line.proofs.Sets.{sets_more}
 use Rattle.scp_line.proofs.left.sets_of.Goals as goal
 

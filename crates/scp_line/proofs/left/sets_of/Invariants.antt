@@ -1,5 +1,5 @@
 use Rattle.std.proofs.Common.{◌≡◌, map}
-use Rattle.scp_script.specs.Nodes.{numbers, set_at}
+use Rattle.scp_report.specs.scp_script.specs.Nodes.{numbers, set_at}
 use Rattle.scp_line.proofs.left.sets_of.Given as goal
 
 -- those of the nodes so far

@@ -1,6 +1,6 @@
 use Rattle.std.proofs.Common.{rules, ◌≡◌, Some, refl}
 use Rattle.std.proofs.lemmas.Result.{err_from_is_err_and}
-use Rattle.scp_types.specs.declared.fault.Fault.TheVariants.{Failed}
+use Rattle.scp_turn.specs.scp_types.specs.declared.fault.Fault.TheVariants.{Failed}
 use Rattle.scp_turn.specs.scp_core.specs.declared.event.Reply.TheVariants.{Accepted, Full}
 use Rattle.scp_turn.specs.Watch.{notes}
 use Rattle.scp_line.specs.Nodes.{moment}

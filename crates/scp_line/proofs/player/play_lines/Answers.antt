@@ -1,6 +1,6 @@
 use Rattle.std.proofs.Common.{◌≡◌, ◌<◌, ℕ, length, get_or, refl, sym, subst, arith}
 use Rattle.scp_turn.specs.Heard.{Nodes}
-use Rattle.scp_script.specs.declared.command.Command.{Command}
+use Rattle.scp_report.specs.scp_script.specs.declared.command.Command.{Command}
 use Rattle.scp_line.specs.Player.{lining, ArePlaying}
 use Rattle.scp_line.proofs.Runs.{none_yet, are_playing, line_more, line_cut, all_lines}
 use Rattle.scp_line.proofs.player.play_lines.Goals as goal

@@ -2,7 +2,7 @@ use Rattle.std.proofs.Common.{◌≡◌, ◌∙◌, List, length, string_bytes, 
 use Rattle.std.proofs.lemmas.Result.{err_from_is_err_and}
 use Rattle.scp_threaded_script.specs.scp_gather.specs.Kv.{NodeReport}
 use Rattle.scp_threaded_script.specs.Reported.{AreNodesReported}
-use Rattle.scp_script.specs.Script.{commands_in}
+use Rattle.scp_report.specs.scp_script.specs.Script.{commands_in}
 use Rattle.scp_line.proofs.Headlines.{are_gathered_headlined}
 use Rattle.scp_line.proofs.Fits.{script_fits}
 use Rattle.scp_line.proofs.Threaded.{are_gathered_reports, given_up_not_bad}

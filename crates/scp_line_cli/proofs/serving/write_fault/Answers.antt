@@ -1,7 +1,7 @@
 -- The node's number is written as it is told, and behind it the stage's word.
 use Rattle.std.proofs.Common.{◌≡◌, ◌∙◌, ◌++◌, ℕ, List, OnOk, codes, ap, sym, subst, append_assoc}
 use Rattle.std.specs.Fmt.{decimal}
-use Rattle.scp_device.specs.Device.{Gains}
+use Rattle.scp_line.specs.scp_device.specs.Device.{Gains}
 use Rattle.scp_line.specs.Outcome.{stage_word, fault_line}
 use Rattle.scp_line_cli.proofs.serving.write_fault.Goals as goal
 

@@ -1,8 +1,8 @@
 use Rattle.std.proofs.Common.{sym, ◌∙◌, ap, string_bytes}
 use Rattle.std.specs.Prelude.{Err, map}
-use Rattle.scp_types.specs.declared.fault.Fault.{Fault}
-use Rattle.scp_types.specs.declared.fault.Fault.TheVariants.{Failed}
-use Rattle.scp_types.specs.declared.names.Hash.{Hash}
+use Rattle.scp_again.specs.scp_types.specs.declared.fault.Fault.{Fault}
+use Rattle.scp_again.specs.scp_types.specs.declared.fault.Fault.TheVariants.{Failed}
+use Rattle.scp_again.specs.scp_types.specs.declared.names.Hash.{Hash}
 use Rattle.scp_turn.specs.Watch.{notes}
 use Rattle.scp_turn.specs.Kv.{Watched}
 use Rattle.scp_turn.specs.declared.playing.Played.{Played}

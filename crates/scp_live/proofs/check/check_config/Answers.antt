@@ -1,5 +1,5 @@
 use Rattle.std.proofs.Common.{List, ℕ, ◌∙◌, subst}
-use Rattle.scp_device.specs.Device.{Gains}
+use Rattle.scp_report.specs.scp_device.specs.Device.{Gains}
 use Rattle.scp_live.proofs.check.check_config.Goals as goal
 
 pub returns-in-Ok-write_text : goal.returns-in-Ok-write_text

@@ -1,7 +1,7 @@
 use Rattle.std.proofs.Common.{ℕ, ◌++◌, sym, subst, codes}
 use Rattle.std.specs.Prelude.{OnOk}
 use Rattle.std.specs.Fmt.{decimal}
-use Rattle.scp_device.specs.Device.{Gains}
+use Rattle.scp_report.specs.scp_device.specs.Device.{Gains}
 use Rattle.scp_live_log.specs.declared.kept.LogFault.{LogFault}
 use Rattle.scp_live.specs.Failing.{fault_line}
 use Rattle.scp_live.proofs.failing.write_fault_line.Goals as goal

@@ -1,7 +1,7 @@
 use Rattle.std.proofs.Common.{ℕ, List, ◌++◌, subst}
 use Rattle.std.proofs.lemmas.Result.{err_from_is_err_and}
 use Rattle.std.specs.Prelude.{OnOk, OnErr, codes}
-use Rattle.scp_device.specs.Device.{Gains, GainsPart}
+use Rattle.scp_report.specs.scp_device.specs.Device.{Gains, GainsPart}
 use Rattle.scp_live.proofs.Reporting.{part_within, whole_behind, part_behind, raised_behind, kept_behind}
 use Rattle.scp_live.proofs.failing.write_line.Goals as goal
 

@@ -1,6 +1,6 @@
 use Rattle.std.proofs.Common.{◌*◌, ◌+◌, ◌≤◌, map, take}
 use Rattle.toml.specs.View.{view}
-use Rattle.scp_xdr.specs.Tree.{in_a_row}
+use Rattle.scp_quorum.specs.scp_xdr.specs.Tree.{in_a_row}
 use Rattle.scp_quorum.specs.Sane.{levels}
 use Rattle.scp_live_config.specs.Sets.{SayInner}
 use Rattle.scp_live_config.proofs.sets.+reading.Given as goal

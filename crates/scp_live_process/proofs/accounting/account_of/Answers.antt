@@ -1,10 +1,10 @@
 use Rattle.std.proofs.Common.{◌≡◌, List, [], ◌∷◌, length, map, sym, ◌∙◌, ap, subst, string_bytes, arith}
 use Rattle.std.proofs.lemmas.Result.{err_from_is_err_and}
-use Rattle.scp_turn.specs.scp_core.specs.Kv.{NodeView}
-use Rattle.scp_turn.specs.Kv.{Watched}
-use Rattle.scp_live_log.specs.Log.{EntryView}
-use Rattle.scp_account.specs.scp_facts.specs.declared.happening.Kept.{Kept as Happened}
-use Rattle.scp_account.specs.scp_facts.specs.Keeping.{WatchView, noting}
+use Rattle.scp_stand_node.specs.scp_core.specs.Kv.{NodeView}
+use Rattle.scp_stand_node.specs.scp_turn.specs.Kv.{Watched}
+use Rattle.scp_batches.specs.scp_live_log.specs.Log.{EntryView}
+use Rattle.scp_trace_text.specs.scp_facts.specs.declared.happening.Kept.{Kept as Happened}
+use Rattle.scp_trace_text.specs.scp_facts.specs.Keeping.{WatchView, noting}
 use Rattle.scp_account.specs.scp_report.specs.declared.report.Report.{Report}
 use Rattle.scp_account.specs.scp_report.specs.Report.{ReportView, view_of}
 use Rattle.scp_account.specs.scp_report.specs.Node.{reports_of}

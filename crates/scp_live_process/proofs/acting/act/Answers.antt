@@ -1,4 +1,4 @@
-use Rattle.scp_turn.specs.Watch.{notes}
+use Rattle.scp_stand_node.specs.scp_turn.specs.Watch.{notes}
 use Rattle.scp_live_process.proofs.Acted.{acted, refused_as}
 use Rattle.scp_live_process.proofs.acting.act.Goals as goal
 

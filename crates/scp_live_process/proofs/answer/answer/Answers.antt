@@ -1,4 +1,4 @@
-use Rattle.scp_turn.specs.Watch.{notes}
+use Rattle.scp_stand_node.specs.scp_turn.specs.Watch.{notes}
 use Rattle.scp_live_process.specs.Answers.{IsAnswered, IsDone}
 use Rattle.scp_live_process.specs.inside.Adding.{Adds}
 use Rattle.scp_live_process.proofs.Answering.{served_as, refused_as, too_long, not_long, long}

@@ -1,7 +1,7 @@
 use Rattle.std.proofs.Common.{◌≡◌, true, List, [], ◌∷◌, ◌++◌, sym, ◌∙◌, ap, subst, append_assoc, ℕ, arith}
 use Rattle.std.proofs.lemmas.List.{append-nil, nil_from_length}
-use Rattle.scp_live.specs.scp_turn.specs.Episode.{finds_full}
-use Rattle.scp_turn.specs.Watch.{notes}
+use Rattle.scp_stand_node.specs.scp_turn.specs.Episode.{finds_full}
+use Rattle.scp_stand_node.specs.scp_turn.specs.Watch.{notes}
 use Rattle.scp_live_process.specs.Answers.{IsAnswered, AreAnswered, next_number}
 use Rattle.scp_live_process.specs.inside.Adding.{Adds}
 use Rattle.scp_live_process.proofs.Going.{seen_as, seen_then, seen_running}

@@ -1,5 +1,5 @@
 use Rattle.std.proofs.Common.{◌≡◌, ◌++◌}
-use Rattle.scp_turn.specs.Watch.{notes}
+use Rattle.scp_stand_node.specs.scp_turn.specs.Watch.{notes}
 use Rattle.scp_live_process.specs.Answers.{AreAnswered}
 use Rattle.scp_live.specs.Living.{IsLive}
 use Rattle.scp_live_process.specs.inside.Adding.{Adds}

@@ -1,4 +1,4 @@
-use Rattle.scp_turn.specs.Watch.{notes}
+use Rattle.scp_stand_node.specs.scp_turn.specs.Watch.{notes}
 use Rattle.scp_live_process.specs.Answers.{IsDone}
 use Rattle.scp_live_process.specs.inside.Adding.{Adds}
 use Rattle.scp_live_process.proofs.Going.{seen_nothing}

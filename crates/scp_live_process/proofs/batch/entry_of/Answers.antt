@@ -1,5 +1,5 @@
 use Rattle.std.proofs.Common.{◌≡◌, length, subst, sym}
-use Rattle.scp_live_log.specs.Log.{IsEntry}
+use Rattle.scp_batches.specs.scp_live_log.specs.Log.{IsEntry}
 use Rattle.scp_live_process.proofs.batch.entry_of.Goals as goal
 
 pub returns-clause-entry : goal.returns-clause-entry

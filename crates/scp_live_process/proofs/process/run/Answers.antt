@@ -1,8 +1,8 @@
 use Rattle.std.proofs.Common.{ℕ, List, refl, ◌∙◌, ap, subst, inl, inr}
-use Rattle.scp_types.specs.declared.fault.Fault.TheVariants.{NoMemory, Device}
-use Rattle.scp_device.specs.Device.{Gains, GainsPart}
-use Rattle.scp_live_log.specs.declared.kept.LogFault.TheVariants.{Failed}
-use Rattle.scp_turn.specs.Watch.{notes}
+use Rattle.scp_stand_node.specs.scp_types.specs.declared.fault.Fault.TheVariants.{NoMemory, Device}
+use Rattle.scp_stand_node.specs.scp_device.specs.Device.{Gains, GainsPart}
+use Rattle.scp_batches.specs.scp_live_log.specs.declared.kept.LogFault.TheVariants.{Failed}
+use Rattle.scp_stand_node.specs.scp_turn.specs.Watch.{notes}
 use Rattle.scp_live_process.specs.Ending.{streams}
 use Rattle.scp_live_process.proofs.Going.{seen_as, seen_then, then_unseen, unwatched_as, unwatched_then}
 use Rattle.scp_live_process.proofs.Started.{has_run}

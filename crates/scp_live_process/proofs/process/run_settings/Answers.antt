@@ -1,5 +1,5 @@
 use Rattle.std.proofs.Common.{refl, ◌∙◌, inl}
-use Rattle.scp_turn.specs.Watch.{notes}
+use Rattle.scp_stand_node.specs.scp_turn.specs.Watch.{notes}
 use Rattle.scp_live_process.proofs.Begun.{runs_as}
 use Rattle.scp_live_process.proofs.Ended.{unmade, stops_as}
 use Rattle.scp_live_process.specs.Ending.{streams}

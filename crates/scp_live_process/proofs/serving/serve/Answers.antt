@@ -1,6 +1,6 @@
 use Rattle.std.proofs.Common.{◌∙◌, Err, refl, ap, inl, inr, ⊎_elim}
-use Rattle.scp_types.specs.declared.fault.Fault.TheVariants.{NoMemory, Device, TooLong}
-use Rattle.scp_turn.specs.Watch.{notes}
+use Rattle.scp_stand_node.specs.scp_types.specs.declared.fault.Fault.TheVariants.{NoMemory, Device, TooLong}
+use Rattle.scp_stand_node.specs.scp_turn.specs.Watch.{notes}
 use Rattle.scp_live_process.proofs.Going.{seen_nothing, seen_as, seen_then, seen_running}
 use Rattle.scp_live_process.proofs.Acts.{err_as, full_behind, unfilled_yet, told_some, told_nothing}
 use Rattle.scp_live_process.proofs.Served.{Serving, nothing_served, served_more, served_all, part_here, part_of, too_many}

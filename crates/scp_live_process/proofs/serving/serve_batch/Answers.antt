@@ -1,7 +1,7 @@
 use Rattle.std.proofs.Common.{◌∙◌, Err, string_bytes, refl, ap, inl, inr}
-use Rattle.scp_types.specs.declared.fault.Fault.{Fault}
-use Rattle.scp_turn.specs.Watch.{notes}
-use Rattle.scp_device.specs.Device.{GainsPart}
+use Rattle.scp_stand_node.specs.scp_types.specs.declared.fault.Fault.{Fault}
+use Rattle.scp_stand_node.specs.scp_turn.specs.Watch.{notes}
+use Rattle.scp_stand_node.specs.scp_device.specs.Device.{GainsPart}
 use Rattle.scp_live_process.proofs.Going.{seen_as}
 use Rattle.scp_live_process.proofs.Acts.{unfilled, unfilled_yet}
 use Rattle.scp_live_process.proofs.Served.{stays_by, batch_is}

@@ -1,5 +1,5 @@
 use Rattle.std.proofs.Common.{List, string_bytes, subst}
-use Rattle.scp_live_config.specs.Names.{Identity}
+use Rattle.scp_live.specs.scp_live_config.specs.Names.{Identity}
 use Rattle.scp_live_process.specs.Stands.{AreNamesIn}
 use Rattle.scp_live_process.proofs.Standing.{stand_named}
 use Rattle.scp_live_process.proofs.stand.tell_stand.Goals as goal

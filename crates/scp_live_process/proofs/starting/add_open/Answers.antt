@@ -1,5 +1,5 @@
 use Rattle.std.proofs.Common.{sym, ◌∙◌}
-use Rattle.scp_turn.specs.scp_core.specs.Node.{accepts_at}
+use Rattle.scp_stand_node.specs.scp_core.specs.Node.{accepts_at}
 use Rattle.scp_live_process.proofs.Started.{not_added, is_added}
 use Rattle.scp_live_process.proofs.starting.add_open.Goals as goal
 

@@ -1,10 +1,10 @@
 use Rattle.std.proofs.Common.{List, ℕ, ◌++◌, ◌∙◌, ap, subst}
 use Rattle.std.specs.Prelude.{codes}
-use Rattle.scp_types.specs.declared.fault.Fault.TheVariants.{BadConfig}
-use Rattle.scp_turn.specs.Watch.{notes}
-use Rattle.scp_live_lines.specs.Names.{name_at}
-use Rattle.scp_live_lines.specs.Says.{Says}
-use Rattle.scp_live_lines.specs.declared.asked.Asked.TheVariants.{Event}
+use Rattle.scp_stand_node.specs.scp_types.specs.declared.fault.Fault.TheVariants.{BadConfig}
+use Rattle.scp_stand_node.specs.scp_turn.specs.Watch.{notes}
+use Rattle.scp_live.specs.scp_live_lines.specs.Names.{name_at}
+use Rattle.scp_live.specs.scp_live_lines.specs.Says.{Says}
+use Rattle.scp_live.specs.scp_live_lines.specs.declared.asked.Asked.TheVariants.{Event}
 use Rattle.scp_live_process.specs.Closing.{IsNoEventLine}
 use Rattle.scp_live.proofs.Going.{none_found}
 use Rattle.scp_live_process.proofs.Going.{seen_nothing, seen_as}

@@ -1,8 +1,8 @@
 use Rattle.std.proofs.Common.{◌≡◌, true, List, [], ◌∷◌, ◌++◌, ℕ, refl, sym, ◌∙◌, ap, subst, append_assoc, arith, rules}
 use Rattle.std.proofs.lemmas.List.{append-nil, nil_from_length}
-use Rattle.scp_types.specs.declared.fault.Fault.TheVariants.{BadConfig}
-use Rattle.scp_live.specs.scp_turn.specs.Episode.{finds_full}
-use Rattle.scp_turn.specs.Watch.{notes}
+use Rattle.scp_stand_node.specs.scp_types.specs.declared.fault.Fault.TheVariants.{BadConfig}
+use Rattle.scp_stand_node.specs.scp_turn.specs.Episode.{finds_full}
+use Rattle.scp_stand_node.specs.scp_turn.specs.Watch.{notes}
 use Rattle.scp_live_process.specs.Closing.{IsNoEventLine, close_line}
 use Rattle.scp_live_process.specs.inside.Replaying.{AddsCloses}
 use Rattle.scp_live_process.proofs.Going.{seen_nothing, seen_as, seen_then, seen_running}

@@ -1,8 +1,8 @@
 use Rattle.std.proofs.Common.{◌≡◌, List, ℕ, ◌++◌, refl, subst}
-use Rattle.scp_types.specs.declared.fault.Fault.TheVariants.{NoMemory, BadConfig}
-use Rattle.scp_turn.specs.Watch.{notes}
-use Rattle.scp_live_log.specs.Kept.{IsSettled}
-use Rattle.scp_live_log.specs.Log.{EntryView, batch_of}
+use Rattle.scp_stand_node.specs.scp_types.specs.declared.fault.Fault.TheVariants.{NoMemory, BadConfig}
+use Rattle.scp_stand_node.specs.scp_turn.specs.Watch.{notes}
+use Rattle.scp_batches.specs.scp_live_log.specs.Kept.{IsSettled}
+use Rattle.scp_batches.specs.scp_live_log.specs.Log.{EntryView, batch_of}
 use Rattle.scp_live_process.specs.Closing.{HasNoCloseLine}
 use Rattle.scp_live.proofs.Going.{none_found}
 use Rattle.scp_live_process.proofs.Going.{seen_nothing, seen_as}

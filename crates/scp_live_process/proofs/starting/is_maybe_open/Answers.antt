@@ -1,6 +1,6 @@
 use Rattle.std.proofs.Common.{◌<◌, ◌∙◌, ℕ, sym, ap, subst, arith}
-use Rattle.scp_turn.specs.scp_core.specs.Node.{room_at}
-use Rattle.scp_turn.specs.scp_core.specs.Kv.{NodeView}
+use Rattle.scp_stand_node.specs.scp_core.specs.Node.{room_at}
+use Rattle.scp_stand_node.specs.scp_core.specs.Kv.{NodeView}
 use Rattle.scp_live_process.proofs.Started.{shut_at}
 use Rattle.scp_live_process.proofs.starting.is_maybe_open.Goals as goal
 

@@ -1,9 +1,9 @@
 use Rattle.std.proofs.Common.{◌≡◌, true, List, length, sym, subst, arith}
-use Rattle.scp_types.specs.declared.fault.Fault.TheVariants.{JournalFull}
-use Rattle.scp_turn.specs.Watch.{notes}
-use Rattle.scp_live.specs.scp_turn.specs.Episode.{finds_full}
-use Rattle.scp_live_log.specs.Log.{EntryView}
-use Rattle.scp_live_log.specs.declared.kept.LogFault.TheVariants.{Failed}
+use Rattle.scp_stand_node.specs.scp_types.specs.declared.fault.Fault.TheVariants.{JournalFull}
+use Rattle.scp_stand_node.specs.scp_turn.specs.Watch.{notes}
+use Rattle.scp_stand_node.specs.scp_turn.specs.Episode.{finds_full}
+use Rattle.scp_batches.specs.scp_live_log.specs.Log.{EntryView}
+use Rattle.scp_batches.specs.scp_live_log.specs.declared.kept.LogFault.TheVariants.{Failed}
 use Rattle.scp_live.specs.Replays.{AreReplayed}
 use Rattle.scp_live_process.specs.Starting.{HasRead}
 use Rattle.scp_live.proofs.Going.{found_behind, none_found}

@@ -1,6 +1,6 @@
 use Rattle.std.proofs.Common.{ℕ, refl, ap, sym, subst, inl, inr}
-use Rattle.scp_types.specs.declared.fault.Fault.TheVariants.{NoMemory}
-use Rattle.scp_live_log.specs.declared.kept.LogFault.TheVariants.{Failed}
+use Rattle.scp_stand_node.specs.scp_types.specs.declared.fault.Fault.TheVariants.{NoMemory}
+use Rattle.scp_batches.specs.scp_live_log.specs.declared.kept.LogFault.TheVariants.{Failed}
 use Rattle.scp_trace_text.specs.Watching.{TraceView}
 use Rattle.scp_live_process.specs.Ending.{streams, EndsBy, StopsTraced}
 use Rattle.scp_live_process.proofs.Ended.{told_so}

@@ -1,5 +1,5 @@
 use Rattle.std.proofs.Common.{◌<◌, ◌⊎◌, ℕ, List, get_or, Contains}
-use Rattle.scp_types.specs.declared.names.NodeId.{NodeId}
+use Rattle.scp_vote.specs.scp_types.specs.declared.names.NodeId.{NodeId}
 use Rattle.scp_driver.specs.Driver.{IsFull}
 use Rattle.scp_nominate.specs.Heard.{heard}
 use Rattle.scp_nominate.specs.Values.{Has}

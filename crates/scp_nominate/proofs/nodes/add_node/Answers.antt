@@ -1,5 +1,5 @@
 use Rattle.std.proofs.Common.{List, subst}
-use Rattle.scp_types.specs.declared.names.NodeId.{NodeId}
+use Rattle.scp_vote.specs.scp_types.specs.declared.names.NodeId.{NodeId}
 use Rattle.scp_nominate.specs.inside.Turns.{IsNodeGap}
 use Rattle.scp_nominate.proofs.Turning.{inserted}
 use Rattle.scp_nominate.proofs.Inserting.{inserted_ascends}

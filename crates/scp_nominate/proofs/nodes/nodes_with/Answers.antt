@@ -2,7 +2,7 @@ use Rattle.std.proofs.Common.{nat_eq}
 use Rattle.std.specs.Cmp.Lexicographic.{pointwise, texts_ties}
 use Rattle.std.proofs.lemmas.Cmp.{nat_list_eq_equiv}
 use Rattle.std.proofs.lemmas.List.Filters.{dedup_is}
-use Rattle.scp_types.specs.declared.names.NodeId.{NodeId}
+use Rattle.scp_vote.specs.scp_types.specs.declared.names.NodeId.{NodeId}
 use Rattle.scp_nominate.proofs.Turning.{in_turn}
 use Rattle.scp_nominate.proofs.nodes.nodes_with.Goals as goal
 

@@ -1,5 +1,5 @@
 use Rattle.std.proofs.Common.{◌≡◌, ◌<◌, ℕ, List, length, get_or, take, sym, subst, arith}
-use Rattle.scp_script.specs.declared.command.Command.{Command}
+use Rattle.scp_line.specs.scp_script.specs.declared.command.Command.{Command}
 use Rattle.scp_notices.specs.inside.Queues.{AreQueues}
 use Rattle.scp_notices.proofs.Queues.{next_taken, notices_more, notices_all}
 use Rattle.scp_notices.proofs.commands.add_ignored.Goals as goal

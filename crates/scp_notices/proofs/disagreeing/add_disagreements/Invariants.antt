@@ -1,5 +1,5 @@
 use Rattle.std.proofs.Common.{◌≡◌, ◌++◌, flat_map, map}
-use Rattle.scp_script.specs.Nodes.{numbers}
+use Rattle.scp_line.specs.scp_script.specs.Nodes.{numbers}
 use Rattle.scp_notices.specs.Disagreeing.{disagreement}
 use Rattle.scp_notices.specs.inside.Seen.{applied_in}
 use Rattle.scp_notices.proofs.disagreeing.add_disagreements.Given as goal

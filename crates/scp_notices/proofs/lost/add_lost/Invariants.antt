@@ -1,5 +1,5 @@
 use Rattle.std.proofs.Common.{◌≡◌, ◌++◌, flat_map, map}
-use Rattle.scp_script.specs.Nodes.{numbers}
+use Rattle.scp_line.specs.scp_script.specs.Nodes.{numbers}
 use Rattle.scp_notices.specs.Lost.{lost_of}
 use Rattle.scp_notices.specs.inside.Seen.{lost_in}
 use Rattle.scp_notices.proofs.lost.add_lost.Given as goal

@@ -1,5 +1,5 @@
 use Rattle.std.proofs.Common.{◌≡◌, ◌∙◌, ◌++◌, ℕ, List, map, ap}
-use Rattle.scp_ledger.specs.declared.journal.Decision.{Decision}
+use Rattle.scp_line.specs.scp_ledger.specs.declared.journal.Decision.{Decision}
 use Rattle.scp_line.specs.scp_report.specs.Report.{ReportView, view_of}
 use Rattle.scp_notices.specs.Disagreeing.{disagreements}
 use Rattle.scp_notices.specs.Ignoring.{ignored}

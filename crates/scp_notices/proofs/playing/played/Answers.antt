@@ -1,10 +1,10 @@
 use Rattle.std.proofs.Common.{◌≡◌, ◌≢◌, ◌∙◌, ℕ, List, All, sym, ap, subst}
-use Rattle.scp_script.specs.declared.command.Command.{Command}
-use Rattle.scp_script.specs.Nodes.{NamesNodes}
+use Rattle.scp_line.specs.scp_script.specs.declared.command.Command.{Command}
+use Rattle.scp_line.specs.scp_script.specs.Nodes.{NamesNodes}
 use Rattle.scp_line.specs.Headlines.{AreNodesHeadlined}
 use Rattle.scp_line.specs.Player.{IsRun, IsStoppedBy}
 use Rattle.scp_notices.specs.declared.playing.RunFault.{RunFault}
-use Rattle.scp_script_check.specs.scp_device.specs.declared.bad.ReadFault.TheVariants as reads
+use Rattle.scp_line.specs.scp_device.specs.declared.bad.ReadFault.TheVariants as reads
 use Rattle.scp_notices.specs.declared.playing.RunFault.TheVariants.{Unread}
 use Rattle.scp_notices.specs.inside.Playing.{IsStop}
 use Rattle.scp_notices.proofs.Runs.{both_note, pair, both_shown, stopped_in, few_ran}

@@ -1,8 +1,8 @@
 use Rattle.std.proofs.Common.{[], List, subst, sym}
 use Rattle.std.specs.Prelude.{All}
-use Rattle.scp_script.specs.declared.command.Command.{Command}
-use Rattle.scp_script.specs.Nodes.{NamesNodes}
-use Rattle.scp_script.specs.Script.{AreAdmitted}
+use Rattle.scp_line.specs.scp_script.specs.declared.command.Command.{Command}
+use Rattle.scp_line.specs.scp_script.specs.Nodes.{NamesNodes}
+use Rattle.scp_line.specs.scp_script.specs.Script.{AreAdmitted}
 use Rattle.scp_line.specs.Nodes.{HaveRoom}
 use Rattle.scp_script_check.specs.declared.reading.Script.{Script}
 use Rattle.scp_notices.proofs.Fitting.{lines_fit}

@@ -1,6 +1,6 @@
 use Rattle.std.proofs.Common.{◌≡◌, ◌∙◌, ◌++◌, ℕ, List, append_assoc, ap, map, arith}
 use Rattle.std.specs.Global.{Vec}
-use Rattle.scp_script.specs.declared.command.Command.{Command}
+use Rattle.scp_line.specs.scp_script.specs.declared.command.Command.{Command}
 use Rattle.scp_line.specs.scp_report.specs.declared.report.Report.{Report}
 use Rattle.scp_line.specs.scp_report.specs.Report.{ReportView, view_of}
 use Rattle.scp_line.specs.Left.{left_behind, reports_left}

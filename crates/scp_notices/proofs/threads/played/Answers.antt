@@ -2,10 +2,10 @@ use Rattle.std.proofs.Common.{◌≡◌, ◌∙◌, ℕ, List, length, map, ap, 
 use Rattle.std.specs.Global.{Vec}
 use Rattle.std.specs.Prelude.{All}
 use Rattle.std.proofs.lemmas.List.{length-map}
-use Rattle.scp_apply.specs.Applied.{AreInOrder}
-use Rattle.scp_gather.specs.Kv.{NodeReport}
-use Rattle.scp_script.specs.declared.command.Command.{Command}
-use Rattle.scp_script.specs.Script.{node_count}
+use Rattle.scp_line.specs.scp_apply.specs.Applied.{AreInOrder}
+use Rattle.scp_line.specs.scp_gather.specs.Kv.{NodeReport}
+use Rattle.scp_line.specs.scp_script.specs.declared.command.Command.{Command}
+use Rattle.scp_line.specs.scp_script.specs.Script.{node_count}
 use Rattle.scp_line.specs.scp_threaded_script.specs.Reported.{AreNodesReported}
 use Rattle.scp_line.specs.scp_threaded_script.specs.Waits.{AreWaits}
 use Rattle.scp_line.specs.Left.{reports_left}

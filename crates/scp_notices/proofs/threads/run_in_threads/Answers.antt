@@ -1,7 +1,7 @@
 use Rattle.std.proofs.Common.{[]}
 use Rattle.std.specs.Prelude.{All}
-use Rattle.scp_script.specs.Nodes.{NamesNodes}
-use Rattle.scp_script.specs.Script.{AreAdmitted}
+use Rattle.scp_line.specs.scp_script.specs.Nodes.{NamesNodes}
+use Rattle.scp_line.specs.scp_script.specs.Script.{AreAdmitted}
 use Rattle.scp_script_check.specs.declared.reading.Script.{Script}
 use Rattle.scp_notices.proofs.Fitting.{lines_fit}
 use Rattle.scp_notices.proofs.Naming.{threads_keep}

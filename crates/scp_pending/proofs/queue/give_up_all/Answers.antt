@@ -4,7 +4,7 @@ use Rattle.scp_pending.specs.Rules.{is_given_up}
 use Rattle.scp_pending.specs.declared.ready.DropCause.TheVariants.{GaveUp}
 use Rattle.scp_pending.proofs.Keeping.{went_on, went_at, went_stays, went_leaves}
 use Rattle.std.specs.List.{list_any}
-use Rattle.scp_types.specs.declared.names.Hash.{Hash}
+use Rattle.scp_wire.specs.scp_types.specs.declared.names.Hash.{Hash}
 use Rattle.scp_fetch.specs.Wants.{has_conn, waiting_for}
 use Rattle.scp_pending.specs.Queues.{QueueView}
 use Rattle.scp_pending.specs.inside.Kept.{IsQuiet}

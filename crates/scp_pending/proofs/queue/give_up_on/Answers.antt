@@ -1,8 +1,8 @@
 use Rattle.std.proofs.Common.{◌≡◌, sym, ◌∙◌, ap, false}
 use Rattle.std.specs.Prelude.{◌++◌}
 use Rattle.std.specs.List.{list_any}
-use Rattle.scp_types.specs.declared.names.ConnId.{ConnId}
-use Rattle.scp_types.specs.declared.names.Hash.{Hash}
+use Rattle.scp_wire.specs.scp_types.specs.declared.names.ConnId.{ConnId}
+use Rattle.scp_wire.specs.scp_types.specs.declared.names.Hash.{Hash}
 use Rattle.scp_fetch.specs.Wants.{has_conn, waiting_for}
 use Rattle.scp_pending.specs.Queues.{lost_by}
 use Rattle.scp_pending.specs.Rules.{is_given_up}

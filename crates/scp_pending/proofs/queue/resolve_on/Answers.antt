@@ -1,5 +1,5 @@
 use Rattle.std.proofs.Common.{◌≡◌, sym, ◌∙◌, ap, false}
-use Rattle.scp_types.specs.declared.names.ConnId.{ConnId}
+use Rattle.scp_wire.specs.scp_types.specs.declared.names.ConnId.{ConnId}
 use Rattle.scp_fetch.specs.Wants.{has_conn}
 use Rattle.scp_pending.specs.Queues.{is_hash}
 use Rattle.scp_pending.specs.inside.Outcome.{outcome_of}

@@ -1,7 +1,7 @@
 use Rattle.std.proofs.Common.{◌≤◌, Option}
 use Rattle.std.specs.List.{All}
 use Rattle.std.specs.BTreeSet.{btree_set_len}
-use Rattle.scp_types.specs.declared.names.NodeId.{NodeId}
+use Rattle.scp_xdr.specs.scp_types.specs.declared.names.NodeId.{NodeId}
 use Rattle.scp_quorum.specs.NodeSet.{is_in}
 use Rattle.scp_quorum.specs.QuorumTree.{QuorumTree}
 use Rattle.scp_quorum.specs.Quorum.{IsWithin}

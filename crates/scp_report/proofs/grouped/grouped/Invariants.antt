@@ -1,5 +1,5 @@
 use Rattle.std.proofs.Common.{◌≡◌, take}
-use Rattle.scp_types.specs.declared.names.ConnId.{ConnId}
+use Rattle.scp_core.specs.scp_types.specs.declared.names.ConnId.{ConnId}
 use Rattle.scp_report.specs.Json.{fates_on}
 use Rattle.scp_report.specs.inside.Grouped.{fates_at}
 use Rattle.scp_report.proofs.grouped.grouped.Given as goal

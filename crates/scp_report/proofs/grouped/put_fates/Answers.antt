@@ -1,6 +1,6 @@
 use Rattle.std.specs.Ordering.{is_eq}
 use Rattle.std.specs.BTreeMap.{get}
-use Rattle.scp_types.specs.Order.{conn_cmp}
+use Rattle.scp_core.specs.scp_types.specs.Order.{conn_cmp}
 use Rattle.scp_report.proofs.Sorting.{put_in}
 use Rattle.scp_report.proofs.grouped.put_fates.Goals as goal
 

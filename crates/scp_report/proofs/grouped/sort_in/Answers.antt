@@ -1,6 +1,6 @@
 use Rattle.std.proofs.Common.{◌≡◌, ◌++◌, ◌∷◌, [], map, ◌∙◌, ap}
 use Rattle.std.specs.Ordering.{is_eq}
-use Rattle.scp_types.specs.Order.{conn_cmp}
+use Rattle.scp_core.specs.scp_types.specs.Order.{conn_cmp}
 use Rattle.scp_report.specs.inside.Grouped.{fates_at}
 use Rattle.scp_report.proofs.Sorting.{sorted_in}
 use Rattle.scp_report.proofs.Asked.{map_then}

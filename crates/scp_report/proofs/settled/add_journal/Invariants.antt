@@ -1,7 +1,7 @@
 use Rattle.std.proofs.Common.{◌≡◌, fold, drop}
 use Rattle.std.specs.BTreeSet.{insert_key}
-use Rattle.scp_theorem.specs.Fates.{conn_of}
-use Rattle.scp_types.specs.Order.{conn_cmp}
+use Rattle.scp_core.specs.scp_theorem.specs.Fates.{conn_of}
+use Rattle.scp_core.specs.scp_types.specs.Order.{conn_cmp}
 use Rattle.scp_report.proofs.settled.add_journal.Given as goal
 
 -- what is left leads to all

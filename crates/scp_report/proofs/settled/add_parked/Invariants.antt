@@ -1,6 +1,6 @@
 use Rattle.std.proofs.Common.{◌≡◌, fold, drop}
 use Rattle.std.specs.BTreeSet.{insert_key}
-use Rattle.scp_types.specs.Order.{conn_cmp}
+use Rattle.scp_core.specs.scp_types.specs.Order.{conn_cmp}
 use Rattle.scp_report.proofs.settled.add_parked.Given as goal
 
 -- what is left leads to all

@@ -1,6 +1,6 @@
 use Rattle.std.proofs.Common.{◌≡◌, ◌++◌, ◌∷◌, [], ◌+◌, take, sym, ap, ◌∙◌, arith}
 use Rattle.std.proofs.lemmas.List.{take_more}
-use Rattle.scp_theorem.specs.Fates.{conn_of}
+use Rattle.scp_core.specs.scp_theorem.specs.Fates.{conn_of}
 use Rattle.scp_report.specs.Settled.{fate_line}
 use Rattle.scp_report.specs.inside.Sections.{lines_at}
 use Rattle.scp_report.proofs.Sections.{sections-more}

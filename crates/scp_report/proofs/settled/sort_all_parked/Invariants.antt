@@ -1,5 +1,5 @@
 use Rattle.std.proofs.Common.{◌≡◌, ◌++◌, take}
-use Rattle.scp_types.specs.declared.names.ConnId.{ConnId}
+use Rattle.scp_core.specs.scp_types.specs.declared.names.ConnId.{ConnId}
 use Rattle.scp_report.specs.Settled.{parked_lines}
 use Rattle.scp_report.specs.inside.Sections.{lines_at}
 use Rattle.scp_report.proofs.settled.sort_all_parked.Given as goal

@@ -1,6 +1,6 @@
 use Rattle.std.proofs.Common.{string_bytes}
 use Rattle.std.specs.Ordering.{is_eq}
-use Rattle.scp_types.specs.Order.{conn_cmp}
+use Rattle.scp_core.specs.scp_types.specs.Order.{conn_cmp}
 use Rattle.scp_report.specs.Settled.{parked_line}
 use Rattle.scp_report.specs.inside.Sections.{lines_at}
 use Rattle.scp_report.proofs.Sections.{sorted_in}

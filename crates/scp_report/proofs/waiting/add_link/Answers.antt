@@ -1,6 +1,6 @@
 use Rattle.std.proofs.Common.{◌+◌, ◌∙◌, ◌++◌, ap, sym, append_assoc, flat_map, ℕ}
-use Rattle.scp_types.specs.declared.names.NodeId.{NodeId}
-use Rattle.scp_wire.specs.Connections.{conn_at}
+use Rattle.scp_core.specs.scp_types.specs.declared.names.NodeId.{NodeId}
+use Rattle.scp_core.specs.scp_wire.specs.Connections.{conn_at}
 use Rattle.scp_script.specs.Nodes.{numbers}
 use Rattle.scp_report.specs.Waiting.{parked_of}
 use Rattle.scp_report.proofs.Numbers.{one_more}

@@ -1,5 +1,5 @@
 use Rattle.std.proofs.Common.{◌≡◌, ◌++◌, flat_map}
-use Rattle.scp_wire.specs.Connections.{conn_at}
+use Rattle.scp_core.specs.scp_wire.specs.Connections.{conn_at}
 use Rattle.scp_script.specs.Nodes.{numbers}
 use Rattle.scp_report.specs.Waiting.{parked_of}
 use Rattle.scp_report.proofs.waiting.add_link.Given as goal

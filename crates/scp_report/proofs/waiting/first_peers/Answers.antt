@@ -1,6 +1,6 @@
 use Rattle.std.proofs.Common.{rules, sym, ◌≤◌, length}
 use Rattle.std.proofs.lemmas.List.{take_all}
-use Rattle.scp_types.specs.declared.limits.TheConstants.{LINK_LIMIT}
+use Rattle.scp_core.specs.scp_types.specs.declared.limits.TheConstants.{LINK_LIMIT}
 use Rattle.scp_report.proofs.waiting.first_peers.Goals as goal
 
 pub returns-in-None-clause-first : goal.returns-in-None-clause-first

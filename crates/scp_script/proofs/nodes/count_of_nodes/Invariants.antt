@@ -1,5 +1,5 @@
 use Rattle.std.proofs.Common.{◌≡◌, drop, ◌≤◌, fold}
-use Rattle.scp_types.specs.declared.limits.TheConstants.{NODE_LIMIT}
+use Rattle.scp_wire.specs.scp_types.specs.declared.limits.TheConstants.{NODE_LIMIT}
 use Rattle.scp_script.specs.Script.{counted, node_count}
 use Rattle.scp_script.proofs.nodes.count_of_nodes.Given as goal
 

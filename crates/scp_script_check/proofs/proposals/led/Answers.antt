@@ -1,6 +1,6 @@
 use Rattle.std.proofs.Common.{◌≡◌, ◌+◌, ◌||◌, ◌∙◌, ℕ, Bool, List, ap, sym, arith}
 use Rattle.std.specs.List.{list_any}
-use Rattle.scp_types.specs.declared.names.NodeId.{NodeId}
+use Rattle.scp_nominate.specs.scp_types.specs.declared.names.NodeId.{NodeId}
 use Rattle.scp_script.specs.Nodes.{numbers}
 use Rattle.scp_script_check.specs.Warnings.{leads_own, turn_of}
 use Rattle.scp_script_check.proofs.Counting.{any_more}

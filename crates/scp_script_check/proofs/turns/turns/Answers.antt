@@ -1,6 +1,6 @@
 use Rattle.std.proofs.Common.{◌≡◌, ◌+◌, ◌++◌, ◌∷◌, [], List, length, ap, sym, subst, arith, length-append}
-use Rattle.scp_types.specs.declared.names.NodeId.{NodeId}
-use Rattle.scp_quorum.specs.QuorumTree.{QuorumTree}
+use Rattle.scp_nominate.specs.scp_types.specs.declared.names.NodeId.{NodeId}
+use Rattle.scp_nominate.specs.scp_quorum.specs.QuorumTree.{QuorumTree}
 use Rattle.scp_script.specs.Nodes.{id_of, set_at}
 use Rattle.scp_nominate.specs.Turns.{AreInTurn}
 use Rattle.scp_script_check.specs.Warnings.{turn_of}

@@ -1,7 +1,7 @@
 use Rattle.std.proofs.Common.{arith}
 use Rattle.std.proofs.lemmas.Bool.{iff_false}
-use Rattle.scp_quorum.specs.NodeSet.{is_in}
-use Rattle.scp_quorum.specs.Satisfies.{AreDisjoint}
+use Rattle.scp_script.specs.scp_quorum.specs.NodeSet.{is_in}
+use Rattle.scp_script.specs.scp_quorum.specs.Satisfies.{AreDisjoint}
 use Rattle.scp_script_hints.proofs.Every.{contains_here, all_one_more, all_seen}
 use Rattle.scp_script_hints.proofs.finding.apart_from.Goals as goal
 

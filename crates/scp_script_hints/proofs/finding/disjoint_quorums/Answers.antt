@@ -1,7 +1,7 @@
 use Rattle.std.proofs.Common.{List, subst}
 use Rattle.std.specs.List.{Contains}
 use Rattle.std.specs.BTreeSet.{BTreeSet}
-use Rattle.scp_types.specs.declared.names.NodeId.{NodeId}
+use Rattle.scp_script.specs.scp_types.specs.declared.names.NodeId.{NodeId}
 use Rattle.scp_script_hints.proofs.Going.{quorums_are}
 use Rattle.scp_script_hints.proofs.Shared.{quorum_at, all_intersect}
 use Rattle.scp_script_hints.proofs.finding.disjoint_quorums.Goals as goal

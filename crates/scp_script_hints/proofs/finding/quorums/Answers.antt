@@ -1,8 +1,8 @@
 use Rattle.std.proofs.Common.{◌+◌, Bool, take, List, arith, sym, ◌∙◌, ap, subst}
 use Rattle.std.specs.BTreeSet.{BTreeSet}
 use Rattle.std.proofs.lemmas.Bool.{iff_false}
-use Rattle.scp_types.specs.declared.names.NodeId.{NodeId}
-use Rattle.scp_quorum.specs.NodeSet.{is_in}
+use Rattle.scp_script.specs.scp_types.specs.declared.names.NodeId.{NodeId}
+use Rattle.scp_script.specs.scp_quorum.specs.NodeSet.{is_in}
 use Rattle.scp_script_hints.specs.Quorums.{AreMembers, IsQuorumOf, IsListed}
 use Rattle.scp_script_hints.specs.inside.Groups.{IsPicked}
 use Rattle.scp_script_hints.proofs.Picked.{picked_none, picked_yes, picked_not, picked_whole, picked_listed}

@@ -1,5 +1,5 @@
 use Rattle.std.proofs.Common.{take}
-use Rattle.scp_quorum.specs.NodeSet.{is_in}
+use Rattle.scp_script.specs.scp_quorum.specs.NodeSet.{is_in}
 use Rattle.scp_script_hints.specs.Quorums.{IsQuorumOf}
 use Rattle.scp_script_hints.specs.inside.Groups.{IsPicked}
 use Rattle.scp_script_hints.proofs.finding.quorums.Given as goal

@@ -1,6 +1,6 @@
 use Rattle.std.proofs.Common.{◌+◌, List, arith, sym, subst}
 use Rattle.std.specs.BTreeSet.{BTreeSet}
-use Rattle.scp_types.specs.declared.names.NodeId.{NodeId}
+use Rattle.scp_script.specs.scp_types.specs.declared.names.NodeId.{NodeId}
 use Rattle.scp_script_hints.proofs.Adding.{IsAdding, adding_more, all_added}
 use Rattle.scp_script_hints.proofs.groups.add_with.Goals as goal
 

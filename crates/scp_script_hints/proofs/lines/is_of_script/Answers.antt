@@ -1,6 +1,6 @@
 use Rattle.std.proofs.Common.{◌≡◌, ◌+◌, ◌∙◌, true, false, nat_eq, sym, subst, arith}
 use Rattle.std.specs.Cmp.Lexicographic.{pointwise}
-use Rattle.scp_types.specs.declared.names.NodeId.{NodeId}
+use Rattle.scp_script.specs.scp_types.specs.declared.names.NodeId.{NodeId}
 use Rattle.scp_script.specs.Nodes.{id_of}
 use Rattle.scp_script_hints.proofs.Knowing.{known_there, known_not}
 use Rattle.scp_script_hints.proofs.lines.is_of_script.Goals as goal

@@ -1,7 +1,7 @@
 use Rattle.std.proofs.Common.{◌≡◌, false, arith}
 use Rattle.std.specs.List.{Any}
 use Rattle.std.proofs.lemmas.Bool.{iff_false}
-use Rattle.scp_quorum.specs.NodeSet.{is_in}
+use Rattle.scp_script.specs.scp_quorum.specs.NodeSet.{is_in}
 use Rattle.scp_script_hints.specs.inside.Groups.{Keeps}
 use Rattle.scp_script_hints.proofs.Every.{false_iff, true_iff, fails_at, all_one_more, all_seen}
 use Rattle.scp_script_hints.proofs.losses.all_keep.Goals as goal

@@ -1,6 +1,6 @@
 use Rattle.std.proofs.Common.{◌≡◌, false, take}
 use Rattle.std.specs.List.{All, Any}
-use Rattle.scp_quorum.specs.NodeSet.{is_in}
+use Rattle.scp_script.specs.scp_quorum.specs.NodeSet.{is_in}
 use Rattle.scp_script_hints.specs.inside.Groups.{Keeps}
 use Rattle.scp_script_hints.proofs.losses.all_keep.Given as goal
 

@@ -1,6 +1,6 @@
 use Rattle.std.proofs.Common.{arith}
 use Rattle.std.proofs.lemmas.Bool.{iff_false}
-use Rattle.scp_quorum.specs.NodeSet.{is_in}
+use Rattle.scp_script.specs.scp_quorum.specs.NodeSet.{is_in}
 use Rattle.scp_script_hints.specs.inside.Groups.{Keeps}
 use Rattle.scp_script_hints.proofs.Every.{any_here, false_iff, true_iff, all_one_more, all_seen, none_any}
 use Rattle.scp_script_hints.proofs.losses.goes_on.Goals as goal

@@ -1,7 +1,7 @@
 use Rattle.std.proofs.Common.{arith}
 use Rattle.std.proofs.lemmas.Bool.{iff_false}
-use Rattle.scp_quorum.specs.NodeSet.{is_in}
-use Rattle.scp_quorum.specs.Quorum.{IsWithin}
+use Rattle.scp_script.specs.scp_quorum.specs.NodeSet.{is_in}
+use Rattle.scp_script.specs.scp_quorum.specs.Quorum.{IsWithin}
 use Rattle.scp_script_hints.proofs.Every.{false_iff, true_iff, fails_at, all_one_more, all_seen}
 use Rattle.scp_script_hints.proofs.losses.has_no_part.Goals as goal
 

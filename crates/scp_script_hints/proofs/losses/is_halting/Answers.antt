@@ -1,6 +1,6 @@
 use Rattle.std.proofs.Common.{◌≡◌, true, false, sym, ◌∙◌}
 use Rattle.std.proofs.lemmas.Bool.{iff_false}
-use Rattle.scp_quorum.specs.NodeSet.{is_in}
+use Rattle.scp_script.specs.scp_quorum.specs.NodeSet.{is_in}
 use Rattle.scp_script_hints.proofs.Every.{false_iff}
 use Rattle.scp_script_hints.proofs.Going.{not_halting_kept, halting_from}
 use Rattle.scp_script_hints.proofs.losses.is_halting.Goals as goal

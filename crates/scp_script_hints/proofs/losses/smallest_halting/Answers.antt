@@ -1,6 +1,6 @@
 use Rattle.std.proofs.Common.{List, subst}
 use Rattle.std.specs.BTreeSet.{BTreeSet}
-use Rattle.scp_types.specs.declared.names.NodeId.{NodeId}
+use Rattle.scp_script.specs.scp_types.specs.declared.names.NodeId.{NodeId}
 use Rattle.scp_script_hints.specs.inside.Groups.{HasNoPart, IsPicked}
 use Rattle.scp_script_hints.proofs.Going.{quorums_are}
 use Rattle.scp_script_hints.proofs.Smallest.{smallest_each, smallest_all}

@@ -1,6 +1,6 @@
 use Rattle.std.proofs.Common.{arith}
 use Rattle.std.proofs.lemmas.Bool.{iff_false}
-use Rattle.scp_quorum.specs.NodeSet.{is_in}
+use Rattle.scp_script.specs.scp_quorum.specs.NodeSet.{is_in}
 use Rattle.scp_script_hints.specs.inside.Groups.{Withstand}
 use Rattle.scp_script_hints.proofs.Every.{false_iff, true_iff, all_one_more, all_seen}
 use Rattle.scp_script_hints.proofs.Going.{survives_from, not_survived}

@@ -1,7 +1,7 @@
 use Rattle.std.proofs.Common.{◌+◌, take, List, arith, sym, ◌∙◌, ap, subst}
 use Rattle.std.specs.BTreeSet.{BTreeSet}
 use Rattle.std.proofs.lemmas.Bool.{iff_false}
-use Rattle.scp_types.specs.declared.names.NodeId.{NodeId}
+use Rattle.scp_script.specs.scp_types.specs.declared.names.NodeId.{NodeId}
 use Rattle.scp_script_hints.specs.inside.Groups.{HasNoPart, IsPicked}
 use Rattle.scp_script_hints.proofs.Picked.{picked_none, picked_yes, picked_not, picked_whole}
 use Rattle.scp_script_hints.proofs.losses.without_parts.Goals as goal

@@ -1,6 +1,6 @@
 use Rattle.std.proofs.Common.{Bor, ◌≡◌, ◌++◌, ◌∷◌, [], ap, ◌∙◌, sym, map, string_bytes, flat_map}
 use Rattle.std.proofs.lemmas.List.{map-append}
-use Rattle.scp_types.specs.declared.names.NodeId.{NodeId}
+use Rattle.scp_slot.specs.scp_types.specs.declared.names.NodeId.{NodeId}
 use Rattle.std.proofs.lemmas.Iterator.Consumers.{YieldsList-end, YieldsList-from_rest}
 use Rattle.scp_script_slot.specs.Answers.{node_word}
 use Rattle.scp_script_slot.proofs.Answering.{node_added}

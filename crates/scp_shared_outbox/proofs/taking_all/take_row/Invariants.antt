@@ -1,5 +1,5 @@
 use Rattle.std.proofs.Common.{◌<◌, List, length}
-use Rattle.scp_types.specs.declared.limits.TheConstants.{NODE_LIMIT}
+use Rattle.scp_outbox.specs.scp_types.specs.declared.limits.TheConstants.{NODE_LIMIT}
 use Rattle.scp_shared_outbox.specs.declared.outlets.Outlets.{Outlets}
 use Rattle.scp_shared_outbox.specs.inside.Links.{ArePairs, StandLast, TookFrom}
 use Rattle.scp_shared_outbox.proofs.taking_all.take_row.Given as goal

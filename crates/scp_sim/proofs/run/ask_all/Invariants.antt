@@ -1,5 +1,5 @@
 use Rattle.std.proofs.Common.{All}
-use Rattle.scp_script.specs.Nodes.{NamesNodes}
+use Rattle.scp_line.specs.scp_script.specs.Nodes.{NamesNodes}
 use Rattle.scp_sim.proofs.run.ask_all.Given as goal
 
 -- those so far do

@@ -1,5 +1,5 @@
 use Rattle.std.proofs.Common.{List, subst}
-use Rattle.scp_turn.specs.Heard.{Nodes}
+use Rattle.scp_notices.specs.scp_turn.specs.Heard.{Nodes}
 use Rattle.scp_notices.specs.declared.notice.Notice.{Notice}
 use Rattle.scp_sim_findings.specs.Outcome.{IsFound}
 use Rattle.scp_sim_findings.proofs.replaying.comes_to.Goals as goal

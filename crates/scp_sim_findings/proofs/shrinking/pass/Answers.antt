@@ -1,12 +1,12 @@
 use Rattle.std.proofs.Common.{List, ℕ, Bor, map}
-use Rattle.scp_sim_findings.proofs.Keeping.{whole_part, part_of_part}
+use Rattle.scp_sim_findings.proofs.Keeping.{whole_smaller, smaller_of_smaller}
 use Rattle.scp_sim_findings.proofs.shrinking.pass.Goals as goal
 
 pub loop-init : goal.loop-init
-loop-init c = record { part = whole_part (map (λ (line : Bor (List ℕ)). line.now) c.args.lines.items); comes = c.requires.comes }
+loop-init c = record { part = whole_smaller (map (λ (line : Bor (List ℕ)). line.now) c.args.lines.items); reaches = c.requires.reaches }
 
 pub loop-preserved : goal.loop-preserved
 loop-preserved c = record {
-  part = part_of_part (map (λ (line : Bor (List ℕ)). line.now) c.in_ok-next.next.items) (map (λ (line : Bor (List ℕ)). line.now) c.loop.left.items) (map (λ (line : Bor (List ℕ)). line.now) c.args.lines.items) c.in_ok-next.ensures.part c.loop.invariant.part;
-  comes = c.in_ok-next.ensures.comes;
+  part = smaller_of_smaller (map (λ (line : Bor (List ℕ)). line.now) c.in_ok-next.next.items) (map (λ (line : Bor (List ℕ)). line.now) c.loop.left.items) (map (λ (line : Bor (List ℕ)). line.now) c.args.lines.items) c.in_ok-next.ensures.part c.loop.invariant.part;
+  reaches = c.in_ok-next.ensures.reaches;
 }

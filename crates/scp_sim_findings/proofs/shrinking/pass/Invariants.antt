@@ -1,11 +1,11 @@
 use Rattle.std.proofs.Common.{map}
-use Rattle.scp_sim_findings.specs.Replayed.{ComesTo}
-use Rattle.scp_sim_findings.specs.Shrunk.{IsPart, text_of}
+use Rattle.scp_sim_findings.specs.inside.Reaching.{Reaches}
+use Rattle.scp_sim_findings.specs.Shrunk.{IsSmaller, text_of}
 use Rattle.scp_sim_findings.proofs.shrinking.pass.Given as goal
 
 -- what is left is a part, and comes to the same
 abbrev pub invariant-loop : goal.invariant-loop
 invariant-loop l = record {
-  part : IsPart (map (λ line. line.now) l.left.items) (map (λ line. line.now) l.fn.lines.items);
-  comes : ComesTo (text_of (map (λ line. line.now) l.left.items)) l.finding l.judging.marks l.judging.slots;
+  part : IsSmaller (map (λ line. line.now) l.left.items) (map (λ line. line.now) l.fn.lines.items);
+  reaches : Reaches l.aim (text_of (map (λ line. line.now) l.left.items));
 }

@@ -2,7 +2,8 @@ use Rattle.std.proofs.Common.{◌≡◌, ◌∙◌, ◌<◌, ◌++◌, ℕ, List
 use Rattle.std.specs.Prelude.{Result, Ok, Err, OnOk, IfSome, if◌then◌else◌}
 use Rattle.std.specs.Result.{is_ok}
 use Rattle.scp_sim_findings.specs.declared.running.Told.{Told}
-use Rattle.scp_sim_findings.specs.Told.{IsStandOf, TellsStand}
+use Rattle.scp_sim_findings.specs.Needs.{IsStandOf}
+use Rattle.scp_sim_findings.specs.Told.{TellsStand}
 use Rattle.scp_sim_findings.proofs.standing.add_stand.Goals as goal
 
 -- the status of the nodes was put behind the report

@@ -1,6 +1,6 @@
-use Rattle.scp_quorum.specs.Quorum.{set_of}
-use Rattle.scp_vote.specs.declared.claim.StatementKind.TheVariants.{Balloting}
-use Rattle.scp_ballot_rules.specs.Told.{ballots_on}
+use Rattle.scp_nominate.specs.scp_quorum.specs.Quorum.{set_of}
+use Rattle.scp_nominate.specs.scp_vote.specs.declared.claim.StatementKind.TheVariants.{Balloting}
+use Rattle.scp_ballot.specs.scp_ballot_rules.specs.Told.{ballots_on}
 use Rattle.scp_slot.proofs.Sets.{by_found}
 use Rattle.scp_slot.proofs.quorum.has_quorum_at.Goals as goal
 

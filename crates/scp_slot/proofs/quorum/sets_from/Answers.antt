@@ -4,15 +4,15 @@ use Rattle.std.specs.BTreeMap as node_map
 use Rattle.std.specs.BTreeMap.{is_at}
 use Rattle.std.specs.Map.Iter.{deref_pair}
 use Rattle.std.proofs.lemmas.Map.Views.{All-turn}
-use Rattle.scp_types.specs.declared.names.NodeId.{NodeId}
-use Rattle.scp_quorum.specs.NodeSet.{node_cmp}
-use Rattle.scp_quorum.specs.Quorum.{set_of}
-use Rattle.scp_envelope.specs.declared.statement.Pledges.{Pledges}
-use Rattle.scp_vote.specs.declared.statements.Entry.{Entry}
-use Rattle.scp_ballot_rules.specs.Owed.{counter_in}
-use Rattle.scp_ballot_rules.specs.Told.{ballots_on}
-use Rattle.scp_ballot_rules.proofs.Gathering.{Entries}
-use Rattle.scp_ballot_rules.proofs.Stepping.{refuted}
+use Rattle.scp_nominate.specs.scp_types.specs.declared.names.NodeId.{NodeId}
+use Rattle.scp_nominate.specs.scp_quorum.specs.NodeSet.{node_cmp}
+use Rattle.scp_nominate.specs.scp_quorum.specs.Quorum.{set_of}
+use Rattle.scp_nominate.specs.scp_envelope.specs.declared.statement.Pledges.{Pledges}
+use Rattle.scp_nominate.specs.scp_vote.specs.declared.statements.Entry.{Entry}
+use Rattle.scp_ballot.specs.scp_ballot_rules.specs.Owed.{counter_in}
+use Rattle.scp_ballot.specs.scp_ballot_rules.specs.Told.{ballots_on}
+use Rattle.scp_ballot.specs.scp_ballot_rules.proofs.Gathering.{Entries}
+use Rattle.scp_ballot.specs.scp_ballot_rules.proofs.Stepping.{refuted}
 use Rattle.scp_slot.specs.inside.Sets.{counted_from}
 use Rattle.scp_slot.proofs.Sets.{IsPuttingSets, passes_by, puts_set, putting_end, set_at, no_set_at, below, set_after}
 use Rattle.scp_slot.proofs.quorum.sets_from.Goals as goal

@@ -1,5 +1,5 @@
-use Rattle.scp_quorum.specs.Quorum.{set_of}
-use Rattle.scp_ballot_rules.specs.Told.{ballots_on}
+use Rattle.scp_nominate.specs.scp_quorum.specs.Quorum.{set_of}
+use Rattle.scp_ballot.specs.scp_ballot_rules.specs.Told.{ballots_on}
 use Rattle.scp_slot.proofs.Sets.{IsPuttingSets}
 use Rattle.scp_slot.proofs.quorum.sets_from.Given as goal
 

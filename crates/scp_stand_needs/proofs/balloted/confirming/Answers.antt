@@ -1,5 +1,5 @@
 use Rattle.std.proofs.Common.{List, ℕ, subst}
-use Rattle.scp_vote.specs.declared.claim.Claim.TheVariants.{Committed}
+use Rattle.scp_ballot_rules.specs.scp_vote.specs.declared.claim.Claim.TheVariants.{Committed}
 use Rattle.scp_stand_needs.specs.declared.steps.Step.TheVariants.{ConfirmCommit}
 use Rattle.scp_stand_needs.specs.inside.Found.{IsNeedOf}
 use Rattle.scp_stand_needs.proofs.DueBallots.{confirm_needs}

@@ -3,9 +3,9 @@ use Rattle.std.specs.BTreeMap as tree
 use Rattle.std.specs.Map.{keys_of}
 use Rattle.std.specs.Map.Iter.{deref_pair}
 use Rattle.std.proofs.lemmas.Map.Views.{All-turn}
-use Rattle.scp_envelope.specs.Ballots.{value_cmp}
-use Rattle.scp_vote.specs.declared.claim.StatementKind.TheVariants.{Balloting}
-use Rattle.scp_vote.specs.Seen.{seen}
+use Rattle.scp_ballot_rules.specs.scp_envelope.specs.Ballots.{value_cmp}
+use Rattle.scp_ballot_rules.specs.scp_vote.specs.declared.claim.StatementKind.TheVariants.{Balloting}
+use Rattle.scp_ballot_rules.specs.scp_vote.specs.Seen.{seen}
 use Rattle.scp_stand_needs.specs.declared.steps.Need.{Need}
 use Rattle.scp_stand_needs.specs.Needs.{IsBallotDue}
 use Rattle.scp_stand_needs.proofs.Counters.{top_ballot}

@@ -1,6 +1,6 @@
 use Rattle.std.specs.Map.{keys_of}
-use Rattle.scp_vote.specs.declared.claim.StatementKind.TheVariants.{Balloting}
-use Rattle.scp_vote.specs.Seen.{seen}
+use Rattle.scp_ballot_rules.specs.scp_vote.specs.declared.claim.StatementKind.TheVariants.{Balloting}
+use Rattle.scp_ballot_rules.specs.scp_vote.specs.Seen.{seen}
 use Rattle.scp_stand_needs.specs.Needs.{IsBallotDue}
 use Rattle.scp_stand_needs.proofs.Listing.{AreSoFar}
 use Rattle.scp_stand_needs.proofs.balloted.preparing.Given as goal

@@ -1,12 +1,12 @@
 use Rattle.std.proofs.Common.{◌↔◌, ℕ, List, Contains, sym, subst}
 use Rattle.std.proofs.lemmas.Result.{IfOk-weaker}
 use Rattle.std.specs.BTreeMap as tree
-use Rattle.scp_types.specs.declared.ballot.Ballot.{Ballot}
-use Rattle.scp_envelope.specs.Ballots.{value_cmp}
+use Rattle.scp_kv.specs.scp_types.specs.declared.ballot.Ballot.{Ballot}
+use Rattle.scp_ballot_rules.specs.scp_envelope.specs.Ballots.{value_cmp}
 use Rattle.scp_ballot_rules.specs.Greatest.{ballot_at}
 use Rattle.scp_ballot_rules.specs.Owed.{IsCandidate}
-use Rattle.scp_vote.specs.declared.claim.StatementKind.TheVariants.{Balloting}
-use Rattle.scp_vote.specs.Seen.{seen}
+use Rattle.scp_ballot_rules.specs.scp_vote.specs.declared.claim.StatementKind.TheVariants.{Balloting}
+use Rattle.scp_ballot_rules.specs.scp_vote.specs.Seen.{seen}
 use Rattle.scp_stand_needs.specs.inside.Found.{IsGreatest}
 use Rattle.scp_stand_needs.proofs.Counters.{Counters, greatest_as}
 use Rattle.scp_stand_needs.proofs.balloted.top_ballots.Goals as goal

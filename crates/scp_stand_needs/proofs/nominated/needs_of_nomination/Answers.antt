@@ -2,9 +2,9 @@ use Rattle.std.proofs.Common.{ℕ, List, [], IsTrue, sym, subst}
 use Rattle.std.specs.BTreeSet.{contains}
 use Rattle.std.specs.Map.Iter.{deref}
 use Rattle.std.proofs.lemmas.Map.Views.{All-turn}
-use Rattle.scp_envelope.specs.Ballots.{value_cmp}
-use Rattle.scp_vote.specs.declared.claim.StatementKind.TheVariants.{Nomination}
-use Rattle.scp_vote.specs.Seen.{seen}
+use Rattle.scp_ballot_rules.specs.scp_envelope.specs.Ballots.{value_cmp}
+use Rattle.scp_ballot_rules.specs.scp_vote.specs.declared.claim.StatementKind.TheVariants.{Nomination}
+use Rattle.scp_ballot_rules.specs.scp_vote.specs.Seen.{seen}
 use Rattle.scp_stand_needs.specs.declared.steps.Need.{Need}
 use Rattle.scp_stand_needs.specs.Needs.{IsNominationDue}
 use Rattle.scp_stand_needs.proofs.Due.{due_listed}

@@ -1,5 +1,5 @@
-use Rattle.scp_vote.specs.declared.claim.StatementKind.TheVariants.{Nomination}
-use Rattle.scp_vote.specs.Seen.{seen}
+use Rattle.scp_ballot_rules.specs.scp_vote.specs.declared.claim.StatementKind.TheVariants.{Nomination}
+use Rattle.scp_ballot_rules.specs.scp_vote.specs.Seen.{seen}
 use Rattle.scp_stand_needs.specs.Needs.{IsNominationDue}
 use Rattle.scp_stand_needs.proofs.Listing.{AreSoFar}
 use Rattle.scp_stand_needs.proofs.nominated.needs_of_nomination.Given as goal

@@ -3,10 +3,10 @@ use Rattle.std.specs.Option.{option_map}
 use Rattle.std.specs.BTreeMap as node_map
 use Rattle.std.specs.Map.Iter.{deref_pair}
 use Rattle.std.proofs.lemmas.Map.Views.{All-turn}
-use Rattle.scp_quorum.specs.NodeSet.{node_cmp}
-use Rattle.scp_vote.specs.declared.statements.Entry.{Entry}
-use Rattle.scp_vote.specs.declared.claim.StatementKind.TheVariants.{Nomination}
-use Rattle.scp_vote.specs.Seen.{seen}
+use Rattle.scp_ballot_rules.specs.scp_quorum.specs.NodeSet.{node_cmp}
+use Rattle.scp_ballot_rules.specs.scp_vote.specs.declared.statements.Entry.{Entry}
+use Rattle.scp_ballot_rules.specs.scp_vote.specs.declared.claim.StatementKind.TheVariants.{Nomination}
+use Rattle.scp_ballot_rules.specs.scp_vote.specs.Seen.{seen}
 use Rattle.scp_stand_needs.proofs.Visiting.{Entries}
 use Rattle.scp_stand_needs.proofs.Naming.{IsNaming, naming_more, naming_end}
 use Rattle.scp_stand_needs.proofs.nominated.nominated.Goals as goal

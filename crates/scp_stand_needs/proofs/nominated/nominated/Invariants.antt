@@ -1,5 +1,5 @@
-use Rattle.scp_vote.specs.declared.claim.StatementKind.TheVariants.{Nomination}
-use Rattle.scp_vote.specs.Seen.{seen}
+use Rattle.scp_ballot_rules.specs.scp_vote.specs.declared.claim.StatementKind.TheVariants.{Nomination}
+use Rattle.scp_ballot_rules.specs.scp_vote.specs.Seen.{seen}
 use Rattle.scp_stand_needs.proofs.Naming.{IsNaming}
 use Rattle.scp_stand_needs.proofs.nominated.nominated.Given as goal
 

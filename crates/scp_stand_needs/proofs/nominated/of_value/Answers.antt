@@ -1,8 +1,8 @@
 use Rattle.std.proofs.Common.{List, ℕ, IfOk, subst}
 use Rattle.std.proofs.lemmas.Result.{IfOk-weaker}
-use Rattle.scp_vote.specs.declared.claim.Claim.TheVariants.{Nominated}
-use Rattle.scp_vote.specs.declared.claim.StatementKind.TheVariants.{Nomination}
-use Rattle.scp_vote.specs.Seen.{seen}
+use Rattle.scp_ballot_rules.specs.scp_vote.specs.declared.claim.Claim.TheVariants.{Nominated}
+use Rattle.scp_ballot_rules.specs.scp_vote.specs.declared.claim.StatementKind.TheVariants.{Nomination}
+use Rattle.scp_ballot_rules.specs.scp_vote.specs.Seen.{seen}
 use Rattle.scp_stand_needs.specs.declared.steps.Step.TheVariants.{AcceptNominated, ConfirmNominated}
 use Rattle.scp_stand_needs.specs.Needs.{IsNominationDue}
 use Rattle.scp_stand_needs.specs.inside.Found.{IsNext, IsNeedFor}

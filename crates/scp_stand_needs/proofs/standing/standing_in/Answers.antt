@@ -1,8 +1,8 @@
 use Rattle.std.proofs.Common.{◌≡◌, [], List, refl, sym, subst, arith}
-use Rattle.scp_types.specs.declared.names.NodeId.{NodeId}
-use Rattle.scp_vote.specs.Board.{Has}
-use Rattle.scp_vote.specs.Claims.{Stands}
-use Rattle.scp_vote.specs.Seen.{seen}
+use Rattle.scp_kv.specs.scp_types.specs.declared.names.NodeId.{NodeId}
+use Rattle.scp_ballot_rules.specs.scp_vote.specs.Board.{Has}
+use Rattle.scp_ballot_rules.specs.scp_vote.specs.Claims.{Stands}
+use Rattle.scp_ballot_rules.specs.scp_vote.specs.Seen.{seen}
 use Rattle.scp_stand_needs.specs.Needs.{AreMembers}
 use Rattle.scp_stand_needs.proofs.Members.{members_none, members_at, members_all, all_standing}
 use Rattle.scp_stand_needs.proofs.standing.standing_in.Goals as goal

@@ -1,7 +1,7 @@
 use Rattle.std.proofs.Common.{take}
-use Rattle.scp_vote.specs.Board.{Has}
-use Rattle.scp_vote.specs.Claims.{Stands}
-use Rattle.scp_vote.specs.Seen.{seen}
+use Rattle.scp_ballot_rules.specs.scp_vote.specs.Board.{Has}
+use Rattle.scp_ballot_rules.specs.scp_vote.specs.Claims.{Stands}
+use Rattle.scp_ballot_rules.specs.scp_vote.specs.Seen.{seen}
 use Rattle.scp_stand_needs.specs.Needs.{AreMembers}
 use Rattle.scp_stand_needs.proofs.standing.standing_in.Given as goal
 

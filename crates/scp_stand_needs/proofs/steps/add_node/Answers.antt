@@ -1,4 +1,4 @@
-use Rattle.scp_quorum.specs.NodeSet.{is_in}
+use Rattle.scp_ballot_rules.specs.scp_quorum.specs.NodeSet.{is_in}
 use Rattle.scp_stand_needs.proofs.Members.{set_more}
 use Rattle.scp_stand_needs.proofs.steps.add_node.Goals as goal
 

@@ -1,9 +1,9 @@
 use Rattle.std.proofs.Common.{◌≡◌, ◌∙◌, Some, sym, ap}
 use Rattle.std.specs.Option.{option_map}
 use Rattle.std.specs.BTreeMap as node_map
-use Rattle.scp_quorum.specs.NodeSet.{node_cmp, is_in}
-use Rattle.scp_vote.specs.declared.statements.Entry.{Entry}
-use Rattle.scp_vote.specs.Seen.{seen}
+use Rattle.scp_ballot_rules.specs.scp_quorum.specs.NodeSet.{node_cmp, is_in}
+use Rattle.scp_ballot_rules.specs.scp_vote.specs.declared.statements.Entry.{Entry}
+use Rattle.scp_ballot_rules.specs.scp_vote.specs.Seen.{seen}
 use Rattle.scp_stand_needs.proofs.Members.{short_told}
 use Rattle.scp_stand_needs.proofs.steps.is_short.Goals as goal
 

@@ -1,6 +1,6 @@
 use Rattle.std.proofs.Common.{refl, arith}
-use Rattle.scp_vote.specs.Board.{kind_of}
-use Rattle.scp_vote.specs.Seen.{seen}
+use Rattle.scp_ballot_rules.specs.scp_vote.specs.Board.{kind_of}
+use Rattle.scp_ballot_rules.specs.scp_vote.specs.Seen.{seen}
 use Rattle.scp_stand_needs.specs.Needs.{IsOpposed}
 use Rattle.scp_stand_needs.proofs.Members.{members_at, members_all}
 use Rattle.scp_stand_needs.proofs.steps.opposed.Goals as goal

@@ -1,5 +1,5 @@
 use Rattle.std.proofs.Common.{take}
-use Rattle.scp_quorum.specs.NodeSet.{is_in}
+use Rattle.scp_ballot_rules.specs.scp_quorum.specs.NodeSet.{is_in}
 use Rattle.scp_stand_needs.specs.Needs.{AreThese}
 use Rattle.scp_stand_needs.proofs.steps.set_of.Given as goal
 

@@ -1,5 +1,5 @@
 use Rattle.std.proofs.Common.{◌≡◌, ◌++◌, string_bytes, flat_map}
-use Rattle.scp_script.specs.Nodes.{numbers}
+use Rattle.scp_stand_slot.specs.scp_script.specs.Nodes.{numbers}
 use Rattle.scp_stand_node.specs.Holding.{life_text}
 use Rattle.scp_stand_node.proofs.holding.write_held.Given as goal
 

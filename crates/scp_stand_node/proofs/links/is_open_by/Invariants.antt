@@ -1,6 +1,6 @@
 use Rattle.std.proofs.Common.{◌≡◌, true, false, drop, fold}
 use Rattle.std.specs.Prelude.{if◌then◌else◌}
-use Rattle.scp_script.specs.Script.{opens, closes, is_open}
+use Rattle.scp_stand_slot.specs.scp_script.specs.Script.{opens, closes, is_open}
 use Rattle.scp_stand_node.proofs.links.is_open_by.Given as goal
 
 -- what is left leads to all

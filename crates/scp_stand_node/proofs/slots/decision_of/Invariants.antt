@@ -1,6 +1,6 @@
 use Rattle.std.proofs.Common.{◌≡◌, drop}
 use Rattle.std.specs.Prelude.{find}
-use Rattle.scp_ledger.specs.Decisions.{is_at}
+use Rattle.scp_turn.specs.scp_ledger.specs.Decisions.{is_at}
 use Rattle.scp_stand_node.proofs.slots.decision_of.Given as goal
 
 -- what is left tells it

@@ -1,5 +1,5 @@
 use Rattle.std.proofs.Common.{◌≡◌}
-use Rattle.scp_ledger.specs.Seen.{is_asked}
+use Rattle.scp_turn.specs.scp_ledger.specs.Seen.{is_asked}
 use Rattle.scp_stand_node.specs.Links.{peers_with}
 use Rattle.scp_stand_node.proofs.slots.nodes_asked.Given as goal
 

@@ -1,8 +1,8 @@
 use Rattle.std.proofs.Common.{◌∙◌, ap, Option, string_bytes, subst}
-use Rattle.scp_driver.specs.declared.kv_driver.KvDriver.{KvDriver}
-use Rattle.scp_slot.specs.declared.machine.SlotMachine.{SlotMachine}
-use Rattle.scp_ledger.specs.Seen.{machine_at}
-use Rattle.scp_ledger.specs.Kv.{KvLedger}
+use Rattle.scp_turn.specs.scp_driver.specs.declared.kv_driver.KvDriver.{KvDriver}
+use Rattle.scp_turn.specs.scp_slot.specs.declared.machine.SlotMachine.{SlotMachine}
+use Rattle.scp_turn.specs.scp_ledger.specs.Seen.{machine_at}
+use Rattle.scp_turn.specs.scp_ledger.specs.Kv.{KvLedger}
 use Rattle.scp_stand_slot.specs.Adding.{Adds}
 use Rattle.scp_stand_node.specs.Links.{script_of}
 use Rattle.scp_stand_node.specs.Slots.{IsToldOf}

@@ -1,5 +1,5 @@
 use Rattle.std.proofs.Common.{string_bytes, subst}
-use Rattle.scp_types.specs.declared.names.NodeId.{NodeId}
+use Rattle.scp_turn.specs.scp_types.specs.declared.names.NodeId.{NodeId}
 use Rattle.scp_stand_slot.specs.Adding.{Adds}
 use Rattle.scp_stand_slot.specs.Machine.{IsMachineText}
 use Rattle.scp_stand_node.specs.Links.{script_of}

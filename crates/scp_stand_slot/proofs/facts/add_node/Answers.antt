@@ -1,4 +1,4 @@
-use Rattle.scp_quorum.specs.NodeSet.{is_in}
+use Rattle.scp_slot.specs.scp_quorum.specs.NodeSet.{is_in}
 use Rattle.scp_stand_slot.proofs.Gathering.{set_more}
 use Rattle.scp_stand_slot.proofs.facts.add_node.Goals as goal
 

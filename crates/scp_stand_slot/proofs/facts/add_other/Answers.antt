@@ -1,5 +1,5 @@
 use Rattle.std.proofs.Common.{sym, ◌∙◌}
-use Rattle.scp_quorum.specs.NodeSet.{is_in}
+use Rattle.scp_slot.specs.scp_quorum.specs.NodeSet.{is_in}
 use Rattle.scp_stand_slot.proofs.Ways.{then_ok}
 use Rattle.scp_stand_slot.proofs.Gathering.{joins_not, joins_one}
 use Rattle.scp_stand_slot.proofs.facts.add_other.Goals as goal

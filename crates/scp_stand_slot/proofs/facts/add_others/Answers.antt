@@ -1,5 +1,5 @@
 use Rattle.std.proofs.Common.{refl, arith}
-use Rattle.scp_quorum.specs.NodeSet.{is_in}
+use Rattle.scp_slot.specs.scp_quorum.specs.NodeSet.{is_in}
 use Rattle.scp_stand_slot.proofs.Gathering.{others_at}
 use Rattle.scp_stand_slot.proofs.facts.add_others.Goals as goal
 

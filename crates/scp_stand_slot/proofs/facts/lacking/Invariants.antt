@@ -1,5 +1,5 @@
 use Rattle.std.proofs.Common.{◌≡◌, ◌++◌, drop, filter}
-use Rattle.scp_nominate.specs.Heard.{heard}
+use Rattle.scp_slot.specs.scp_nominate.specs.Heard.{heard}
 use Rattle.scp_stand_slot.specs.Machine.{lacks_vote}
 use Rattle.scp_stand_slot.proofs.facts.lacking.Given as goal
 

@@ -1,7 +1,7 @@
 use Rattle.std.proofs.Common.{◌≡◌, ◌↔◌, true, Contains}
 use Rattle.std.specs.List.Sorted.{IsStrictlySortedBy}
-use Rattle.scp_types.specs.declared.names.NodeId.{NodeId}
-use Rattle.scp_quorum.specs.NodeSet.{node_cmp, is_in}
+use Rattle.scp_slot.specs.scp_types.specs.declared.names.NodeId.{NodeId}
+use Rattle.scp_slot.specs.scp_quorum.specs.NodeSet.{node_cmp, is_in}
 use Rattle.scp_stand_slot.specs.Machine.{AreLeaders}
 use Rattle.scp_stand_slot.proofs.Ways.{both_ok}
 use Rattle.scp_stand_slot.proofs.facts.list_of_leaders.Goals as goal

@@ -1,11 +1,11 @@
 use Rattle.std.proofs.Common.{◌≡◌, ◌↔◌, true, not, List, Contains, ap, subst}
 use Rattle.std.specs.Prelude.{is_some}
 use Rattle.std.specs.List.Sorted.{IsStrictlySortedBy}
-use Rattle.scp_types.specs.declared.names.NodeId.{NodeId}
-use Rattle.scp_quorum.specs.NodeSet.{node_cmp, is_in}
-use Rattle.scp_vote.specs.Seen.{seen}
-use Rattle.scp_vote.specs.declared.claim.StatementKind.TheVariants.{Balloting}
-use Rattle.scp_nominate.specs.Heard.{heard}
+use Rattle.scp_slot.specs.scp_types.specs.declared.names.NodeId.{NodeId}
+use Rattle.scp_slot.specs.scp_quorum.specs.NodeSet.{node_cmp, is_in}
+use Rattle.scp_slot.specs.scp_vote.specs.Seen.{seen}
+use Rattle.scp_slot.specs.scp_vote.specs.declared.claim.StatementKind.TheVariants.{Balloting}
+use Rattle.scp_slot.specs.scp_nominate.specs.Heard.{heard}
 use Rattle.scp_stand_slot.specs.Machine.{AreHeard}
 use Rattle.scp_stand_slot.proofs.Ways.{both_ok}
 use Rattle.scp_stand_slot.proofs.Gathering.{Others, both_heard}

@@ -1,8 +1,8 @@
 use Rattle.std.proofs.Common.{◌≡◌, ◌↔◌, true}
-use Rattle.scp_types.specs.declared.names.NodeId.{NodeId}
-use Rattle.scp_quorum.specs.NodeSet.{is_in}
-use Rattle.scp_driver.specs.Kv.{leader_place}
-use Rattle.scp_nominate.specs.Turns.{Leads}
+use Rattle.scp_slot.specs.scp_types.specs.declared.names.NodeId.{NodeId}
+use Rattle.scp_slot.specs.scp_quorum.specs.NodeSet.{is_in}
+use Rattle.scp_slot.specs.scp_driver.specs.Kv.{leader_place}
+use Rattle.scp_slot.specs.scp_nominate.specs.Turns.{Leads}
 use Rattle.scp_stand_slot.proofs.facts.set_of_leaders.Given as goal
 
 -- of the rounds so far

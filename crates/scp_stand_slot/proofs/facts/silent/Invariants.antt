@@ -1,7 +1,7 @@
 use Rattle.std.proofs.Common.{◌≡◌, ◌++◌, drop, filter}
-use Rattle.scp_vote.specs.Seen.{seen}
-use Rattle.scp_vote.specs.declared.claim.StatementKind.TheVariants.{Balloting}
-use Rattle.scp_nominate.specs.Heard.{heard}
+use Rattle.scp_slot.specs.scp_vote.specs.Seen.{seen}
+use Rattle.scp_slot.specs.scp_vote.specs.declared.claim.StatementKind.TheVariants.{Balloting}
+use Rattle.scp_slot.specs.scp_nominate.specs.Heard.{heard}
 use Rattle.scp_stand_slot.specs.Machine.{is_silent}
 use Rattle.scp_stand_slot.proofs.facts.silent.Given as goal
 

@@ -1,12 +1,12 @@
 use Rattle.std.proofs.Common.{◌≡◌, ◌↔◌, None, ◌∙◌, ap, subst}
 use Rattle.std.specs.Prelude.{IsTrue}
-use Rattle.scp_types.specs.declared.names.NodeId.{NodeId}
-use Rattle.scp_vote.specs.declared.board.Board.{Board}
-use Rattle.scp_vote.specs.declared.claim.StatementKind.TheVariants.{Balloting}
-use Rattle.scp_vote.specs.Board.{Seen}
-use Rattle.scp_vote.specs.Seen.{seen}
-use Rattle.scp_nominate.specs.Nomination.{Nomination}
-use Rattle.scp_ballot.specs.Balloting.{Ballots}
+use Rattle.scp_slot.specs.scp_types.specs.declared.names.NodeId.{NodeId}
+use Rattle.scp_slot.specs.scp_vote.specs.declared.board.Board.{Board}
+use Rattle.scp_slot.specs.scp_vote.specs.declared.claim.StatementKind.TheVariants.{Balloting}
+use Rattle.scp_slot.specs.scp_vote.specs.Board.{Seen}
+use Rattle.scp_slot.specs.scp_vote.specs.Seen.{seen}
+use Rattle.scp_slot.specs.scp_nominate.specs.Nomination.{Nomination}
+use Rattle.scp_slot.specs.scp_ballot.specs.Balloting.{Ballots}
 use Rattle.scp_stand_slot.proofs.Ways.{is_both, is_neither, told_false}
 use Rattle.scp_stand_slot.proofs.machine.is_unheard.Goals as goal
 

@@ -1,6 +1,6 @@
 use Rattle.std.proofs.Common.{◌≡◌, ◌++◌, ℕ, List, string_bytes, refl, sym, ◌∙◌, ap, subst}
 use Rattle.std.specs.Prelude.{is_some}
-use Rattle.scp_nominate.specs.Nomination.{Nomination, nomination}
+use Rattle.scp_slot.specs.scp_nominate.specs.Nomination.{Nomination, nomination}
 use Rattle.scp_slot.specs.Slot.{slot_view}
 use Rattle.scp_stand_slot.specs.Machine.{said_lines, needs_lines, machine_lines}
 use Rattle.scp_stand_slot.specs.inside.Facts.{facts_of}

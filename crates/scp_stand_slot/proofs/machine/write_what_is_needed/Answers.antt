@@ -1,11 +1,11 @@
 use Rattle.std.proofs.Common.{◌≡◌, ◌++◌, ℕ, Bool, List, Option, string_bytes, sym, ◌∙◌, ap, subst, filter}
 use Rattle.std.specs.Prelude.{OnOk, flat_map, is_some}
-use Rattle.scp_types.specs.declared.names.NodeId.{NodeId}
-use Rattle.scp_envelope.specs.declared.statement.Pledges.{Pledges}
-use Rattle.scp_vote.specs.declared.claim.StatementKind.TheVariants.{Balloting}
-use Rattle.scp_vote.specs.Seen.{seen}
-use Rattle.scp_nominate.specs.Heard.{heard}
-use Rattle.scp_nominate.specs.Nomination.{nomination}
+use Rattle.scp_slot.specs.scp_types.specs.declared.names.NodeId.{NodeId}
+use Rattle.scp_slot.specs.scp_envelope.specs.declared.statement.Pledges.{Pledges}
+use Rattle.scp_slot.specs.scp_vote.specs.declared.claim.StatementKind.TheVariants.{Balloting}
+use Rattle.scp_slot.specs.scp_vote.specs.Seen.{seen}
+use Rattle.scp_slot.specs.scp_nominate.specs.Heard.{heard}
+use Rattle.scp_slot.specs.scp_nominate.specs.Nomination.{nomination}
 use Rattle.scp_stand_needs.specs.declared.steps.Need.{Need}
 use Rattle.scp_stand_slot.specs.Machine.{silent_line, is_silent, votes_line, lacks_vote, need_text}
 use Rattle.scp_stand_slot.proofs.Ways.{four}

@@ -1,13 +1,13 @@
 use Rattle.std.proofs.Common.{◌≡◌, ◌++◌, ℕ, List, Option, string_bytes, ◌∙◌, ap, subst}
 use Rattle.std.specs.Option.{option_map}
 use Rattle.std.specs.Prelude.{OnOk, codes, flat_map, option_copied}
-use Rattle.scp_types.specs.declared.names.NodeId.{NodeId}
-use Rattle.scp_envelope.specs.declared.statement.Envelope.{Envelope}
-use Rattle.scp_envelope.specs.declared.statement.Pledges.{Pledges}
-use Rattle.scp_vote.specs.declared.claim.StatementKind.TheVariants.{Nomination, Balloting}
-use Rattle.scp_vote.specs.Seen.{seen, envelope_at}
-use Rattle.scp_nominate.specs.Heard.{heard}
-use Rattle.scp_nominate.specs.Nomination.{nomination}
+use Rattle.scp_slot.specs.scp_types.specs.declared.names.NodeId.{NodeId}
+use Rattle.scp_slot.specs.scp_envelope.specs.declared.statement.Envelope.{Envelope}
+use Rattle.scp_slot.specs.scp_envelope.specs.declared.statement.Pledges.{Pledges}
+use Rattle.scp_slot.specs.scp_vote.specs.declared.claim.StatementKind.TheVariants.{Nomination, Balloting}
+use Rattle.scp_slot.specs.scp_vote.specs.Seen.{seen, envelope_at}
+use Rattle.scp_slot.specs.scp_nominate.specs.Heard.{heard}
+use Rattle.scp_slot.specs.scp_nominate.specs.Nomination.{nomination}
 use Rattle.scp_stand_slot.specs.Machine.{rounds_line, phase_line, statement_line, sent, lines_of}
 use Rattle.scp_stand_slot.proofs.Ways.{five}
 use Rattle.scp_stand_slot.proofs.machine.write_what_is_said.Goals as goal

@@ -1,6 +1,6 @@
 use Rattle.std.proofs.Common.{◌≡◌, ◌++◌, drop, flat_map, All}
-use Rattle.scp_xdr.specs.Kind.{Fits}
-use Rattle.scp_quorum.specs.QuorumKind.{set_kind, set_value}
+use Rattle.scp_slot.specs.scp_xdr.specs.Kind.{Fits}
+use Rattle.scp_slot.specs.scp_quorum.specs.QuorumKind.{set_kind, set_value}
 use Rattle.scp_stand_slot.specs.Names.{set_sent}
 use Rattle.scp_stand_slot.proofs.names.add_all_sent.Given as goal
 

@@ -1,7 +1,7 @@
 use Rattle.std.proofs.Common.{List, sym, subst, All}
-use Rattle.scp_xdr.specs.Kind.{Fits}
-use Rattle.scp_quorum.specs.QuorumKind.{set_kind, set_value}
-use Rattle.scp_quorum.specs.QuorumTree.{QuorumTree}
+use Rattle.scp_slot.specs.scp_xdr.specs.Kind.{Fits}
+use Rattle.scp_slot.specs.scp_quorum.specs.QuorumKind.{set_kind, set_value}
+use Rattle.scp_slot.specs.scp_quorum.specs.QuorumTree.{QuorumTree}
 use Rattle.std.proofs.lemmas.List.Elements.{All-push}
 use Rattle.scp_stand_slot.proofs.Listing.{sets_more, fits_as}
 use Rattle.scp_stand_slot.proofs.names.sets_of_nodes.Goals as goal

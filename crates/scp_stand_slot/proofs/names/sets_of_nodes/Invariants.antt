@@ -1,6 +1,6 @@
 use Rattle.std.proofs.Common.{◌≡◌, map, All}
-use Rattle.scp_xdr.specs.Kind.{Fits}
-use Rattle.scp_quorum.specs.QuorumKind.{set_kind, set_value}
+use Rattle.scp_slot.specs.scp_xdr.specs.Kind.{Fits}
+use Rattle.scp_slot.specs.scp_quorum.specs.QuorumKind.{set_kind, set_value}
 use Rattle.scp_script.specs.Nodes.{numbers, set_at}
 use Rattle.scp_stand_slot.proofs.names.sets_of_nodes.Given as goal
 

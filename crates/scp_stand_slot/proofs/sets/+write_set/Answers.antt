@@ -3,8 +3,8 @@ use Rattle.std.specs.Prelude.{codes}
 use Rattle.std.specs.Fmt.{decimal}
 use Rattle.std.proofs.Math.ListN.{drop_of_length-le}
 use Rattle.scp_text.specs.Pieces.{listed}
-use Rattle.scp_xdr.specs.inside.TreeModel.{tree_count}
-use Rattle.scp_quorum.proofs.Smaller.{inner_is_smaller}
+use Rattle.scp_slot.specs.scp_xdr.specs.inside.TreeModel.{tree_count}
+use Rattle.scp_slot.specs.scp_quorum.proofs.Smaller.{inner_is_smaller}
 use Rattle.scp_text.proofs.Rows.{is_nil, empty_is}
 use Rattle.scp_stand_slot.specs.Names.{node_name, set_named}
 use Rattle.scp_stand_slot.proofs.Entries.{set_added}

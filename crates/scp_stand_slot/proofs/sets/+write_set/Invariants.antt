@@ -1,5 +1,5 @@
 use Rattle.std.proofs.Common.{◌≡◌, ◌++◌, drop, map, string_bytes}
-use Rattle.scp_xdr.specs.Tree.{in_a_row}
+use Rattle.scp_slot.specs.scp_xdr.specs.Tree.{in_a_row}
 use Rattle.scp_text.specs.Pieces.{listed}
 use Rattle.scp_stand_slot.specs.Names.{set_named}
 use Rattle.scp_stand_slot.proofs.sets.+write_set.Given as goal

@@ -1,6 +1,6 @@
 use Rattle.std.proofs.Common.{◌≡◌, ◌++◌, ℕ, List, false, subst, string_bytes}
 use Rattle.std.specs.Prelude.{OnOk}
-use Rattle.scp_types.specs.declared.names.Slot.{Slot}
+use Rattle.scp_slot.specs.scp_types.specs.declared.names.Slot.{Slot}
 use Rattle.scp_text.specs.Pieces.{listed}
 use Rattle.scp_text.specs.Messages.{signature_words}
 use Rattle.scp_stand_slot.proofs.Words.{signed}

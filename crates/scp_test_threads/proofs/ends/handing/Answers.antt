@@ -1,8 +1,8 @@
 use denote.Param.Send.{sendable}
 use Rattle.std.proofs.Crossing.{crosses}
-use Rattle.scp_ends.proofs.ends.Tx.TheSendSync as txs
-use Rattle.scp_ends.proofs.ends.Rx.TheSendSync as rxs
-use Rattle.scp_ends.proofs.Crossing.{inbound_send}
+use Rattle.scp_workers.specs.scp_ends.proofs.ends.Tx.TheSendSync as txs
+use Rattle.scp_workers.specs.scp_ends.proofs.ends.Rx.TheSendSync as rxs
+use Rattle.scp_workers.specs.scp_ends.proofs.Crossing.{inbound_send}
 use Rattle.scp_test_threads.proofs.ends.handing.Goals as goal
 
 pub spawn-requires-send-F : goal.spawn-requires-send-F

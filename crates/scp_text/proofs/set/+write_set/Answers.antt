@@ -4,8 +4,8 @@ use Rattle.std.specs.Fmt.{decimal}
 use Rattle.std.proofs.Math.ListN.{drop_of_length-le}
 use Rattle.scp_text.specs.Pieces.{listed}
 use Rattle.scp_text.specs.Sets.{node_text, set_text}
-use Rattle.scp_xdr.specs.inside.TreeModel.{tree_count}
-use Rattle.scp_quorum.proofs.Smaller.{inner_is_smaller}
+use Rattle.scp_kv.specs.scp_xdr.specs.inside.TreeModel.{tree_count}
+use Rattle.scp_wire.specs.scp_quorum.proofs.Smaller.{inner_is_smaller}
 use Rattle.scp_text.proofs.Rows.{set_added, is_nil, empty_is}
 use Rattle.scp_text.proofs.set.+write_set.Goals as goal
 

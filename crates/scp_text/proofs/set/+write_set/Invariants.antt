@@ -1,5 +1,5 @@
 use Rattle.std.proofs.Common.{◌≡◌, ◌++◌, drop, map, string_bytes}
-use Rattle.scp_xdr.specs.Tree.{in_a_row}
+use Rattle.scp_kv.specs.scp_xdr.specs.Tree.{in_a_row}
 use Rattle.scp_text.specs.Pieces.{listed}
 use Rattle.scp_text.specs.Sets.{set_text}
 use Rattle.scp_text.proofs.set.+write_set.Given as goal

@@ -1,6 +1,6 @@
 use Rattle.std.proofs.Common.{subst}
-use Rattle.scp_xdr.specs.Kind.{spelling}
-use Rattle.scp_quorum.specs.QuorumKind.{set_kind, set_value}
+use Rattle.scp_kv.specs.scp_xdr.specs.Kind.{spelling}
+use Rattle.scp_wire.specs.scp_quorum.specs.QuorumKind.{set_kind, set_value}
 use Rattle.scp_text.proofs.Leaves.{AreBytes, Leaves, leaves, bytes_to}
 use Rattle.scp_text.proofs.MessageTexts.{set_good_again}
 use Rattle.scp_text.proofs.single.see_set.Goals as goal

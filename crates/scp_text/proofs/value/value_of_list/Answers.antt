@@ -1,5 +1,5 @@
 use Rattle.std.proofs.Common.{◌≡◌, sym, ap, ◌∙◌, Some, Err, refl}
-use Rattle.scp_types.specs.declared.fault.Fault.TheVariants.{TooLong}
+use Rattle.scp_kv.specs.scp_types.specs.declared.fault.Fault.TheVariants.{TooLong}
 use Rattle.scp_text.proofs.ValueTexts.{list_spelt, list_over}
 use Rattle.scp_text.proofs.value.value_of_list.Goals as goal
 

@@ -1,13 +1,13 @@
 use Rattle.std.proofs.Common.{◌≡◌, ◌∙◌, refl, sym, ap, subst, Result, Ok, Err, arith}
 use Rattle.std.specs.Prelude.{OnOk, OnErr, MatchResult, Some, slice_get, slice_set}
 use Rattle.std.proofs.lemmas.Option.{slice_get-get_or}
-use Rattle.scp_types.specs.declared.fault.Fault.{Fault}
+use Rattle.scp_gather.specs.scp_types.specs.declared.fault.Fault.{Fault}
 use Rattle.scp_threaded_node.specs.declared.node.Running.{Running}
 use Rattle.scp_threaded_node.specs.Acting.{acted, CanAct, IsActFault}
 use Rattle.scp_threaded_node.proofs.Changing.{set_same}
 use Rattle.scp_threaded_node.specs.Outlets.{taker_in, keeps_in}
 use Rattle.scp_threaded_node.proofs.Given.{map_set, lanes_given, acted_in, acted_keeps}
-use Rattle.scp_shared_outbox.proofs.ListsOfAll.{some_is}
+use Rattle.scp_gather.specs.scp_shared_outbox.proofs.ListsOfAll.{some_is}
 use Rattle.scp_threaded_node.proofs.Staying.{acts_runs, unchanged_runs}
 use Rattle.scp_threaded_node.proofs.acting.act_at.Goals as goal
 

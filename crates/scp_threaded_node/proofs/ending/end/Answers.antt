@@ -3,11 +3,11 @@ use Rattle.std.specs.Prelude.{◌↔◌, ◌⊎◌, Option, Some, None, Result, 
 use Rattle.std.specs.Option.{option_or}
 use Rattle.std.proofs.lemmas.List.{length-map}
 use Rattle.std.proofs.lemmas.Result.{err_from_is_err_and}
-use Rattle.scp_types.specs.declared.fault.Fault.{Fault}
-use Rattle.scp_types.specs.declared.fault.Fault.TheVariants.{NoMemory, Refused}
-use Rattle.scp_types.specs.declared.fault.Stage.{Stage}
-use Rattle.scp_wire.specs.declared.link.Inbound.{Inbound}
-use Rattle.scp_ends.specs.Ends.{Sender}
+use Rattle.scp_gather.specs.scp_types.specs.declared.fault.Fault.{Fault}
+use Rattle.scp_gather.specs.scp_types.specs.declared.fault.Fault.TheVariants.{NoMemory, Refused}
+use Rattle.scp_gather.specs.scp_types.specs.declared.fault.Stage.{Stage}
+use Rattle.scp_gather.specs.scp_wire.specs.declared.link.Inbound.{Inbound}
+use Rattle.scp_gather.specs.scp_ends.specs.Ends.{Sender}
 use Rattle.scp_gather.specs.declared.gathering.Gathering.{Gathering}
 use Rattle.scp_gather.specs.Node.{IsNode}
 use Rattle.scp_gather.specs.Report.{first_failed}

@@ -2,8 +2,8 @@ use Rattle.std.proofs.Common.{◌≡◌, ◌∙◌, ℕ, List, ap, sym, subst, [
 use Rattle.std.proofs.lemmas.List.{length-append}
 use Rattle.std.proofs.lemmas.Option.{slice_get-get_or}
 use Rattle.std.specs.Prelude.{slice_get, get_or}
-use Rattle.scp_wire.specs.declared.link.Inbound.{Inbound}
-use Rattle.scp_ends.specs.Ends.{Line, Sender}
+use Rattle.scp_gather.specs.scp_wire.specs.declared.link.Inbound.{Inbound}
+use Rattle.scp_gather.specs.scp_ends.specs.Ends.{Line, Sender}
 use Rattle.scp_threaded_node.specs.Seats.{IsLane}
 use Rattle.scp_threaded_node.proofs.Lists.{fresh_front, fresh_last}
 use Rattle.scp_threaded_node.proofs.Lanes.{lanes_more, unused_more, keep_more}

@@ -1,7 +1,7 @@
 use Rattle.std.proofs.Common.{◌≡◌, ◌∙◌, ℕ, ap, subst, List, [], ◌∷◌, length, arith}
 use Rattle.std.proofs.lemmas.List.{length-append}
-use Rattle.scp_wire.specs.declared.link.Inbound.{Inbound}
-use Rattle.scp_ends.specs.Ends.{Sender, fresh}
+use Rattle.scp_gather.specs.scp_wire.specs.declared.link.Inbound.{Inbound}
+use Rattle.scp_gather.specs.scp_ends.specs.Ends.{Sender, fresh}
 use Rattle.scp_threaded_node.specs.Seats.{AreLanes}
 use Rattle.scp_threaded_node.proofs.Lists.{fresh_last}
 use Rattle.scp_threaded_node.proofs.make.make_lanes.Goals as goal

@@ -1,6 +1,6 @@
 use Rattle.std.proofs.Common.{sym, ap, subst}
-use Rattle.scp_wire.specs.declared.link.Inbound.{Inbound}
-use Rattle.scp_ends.specs.Ends.{Line, Receiver}
+use Rattle.scp_gather.specs.scp_wire.specs.declared.link.Inbound.{Inbound}
+use Rattle.scp_gather.specs.scp_ends.specs.Ends.{Line, Receiver}
 use Rattle.scp_threaded_node.specs.Seats.{AreLanes}
 use Rattle.scp_threaded_node.proofs.make.make_parts.Goals as goal
 

@@ -1,7 +1,7 @@
 use denote.Param.Send.{sendable}
 use Rattle.std.proofs.Common.{◌∙◌}
 use Rattle.std.proofs.Crossing.{crosses}
-use Rattle.scp_ends.proofs.Crossing.{inbound_send}
+use Rattle.scp_gather.specs.scp_ends.proofs.Crossing.{inbound_send}
 use Rattle.scp_threaded_node.proofs.Crossing.{its_ready_send, its_pending_send}
 use Rattle.scp_threaded_node.proofs.node.start.Goals as goal
 

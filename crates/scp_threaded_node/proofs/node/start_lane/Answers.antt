@@ -1,6 +1,6 @@
 use denote.Param.Send.{sendable}
 use Rattle.std.proofs.Crossing.{crosses}
-use Rattle.scp_ends.proofs.Crossing.{inbound_send}
+use Rattle.scp_gather.specs.scp_ends.proofs.Crossing.{inbound_send}
 use Rattle.scp_threaded_node.proofs.Crossing.{its_reading_send}
 use Rattle.scp_threaded_node.proofs.node.start_lane.Goals as goal
 

@@ -1,8 +1,8 @@
 use Rattle.std.proofs.Common.{sym, subst}
 use denote.Param.Send.{sendable}
 use Rattle.std.proofs.Crossing.{crosses}
-use Rattle.scp_workers.specs.Carrying.{CourierWorking, Holds}
-use Rattle.scp_workers.proofs.Crossing.{courier_send}
+use Rattle.scp_gather.specs.scp_workers.specs.Carrying.{CourierWorking, Holds}
+use Rattle.scp_gather.specs.scp_workers.proofs.Crossing.{courier_send}
 use Rattle.scp_threaded_node.proofs.Crossing.{courier_ended_send}
 use Rattle.scp_threaded_node.proofs.starting.start_courier.Goals as goal
 

@@ -2,15 +2,15 @@ use denote.Param.{param}
 use denote.Param.Send.{sendable, IsSend, view_send}
 use denote.Param.SendFields.{declared_send}
 use Rattle.std.proofs.Crossing.{crosses}
-use Rattle.scp_ends.proofs.ends.Tx.TheSendSync as txs
-use Rattle.scp_ends.proofs.ends.Rx.TheSendSync as rxs
-use Rattle.scp_ends.proofs.ends.Done.TheSendSync as dones
-use Rattle.scp_ends.proofs.ends.Nobody.TheSendSync as nobodies
-use Rattle.scp_ends.proofs.gate.Counter.TheSendSync as counters
-use Rattle.scp_workers.specs.contracts.worker.Worker as worker
-use Rattle.scp_workers.specs.contracts.worker.Worker.TheInside as worker_inside
-use Rattle.scp_workers.specs.contracts.worker.Ended as ended
-use Rattle.scp_workers.specs.contracts.worker.Ended.TheInside as ended_inside
+use Rattle.scp_gather.specs.scp_ends.proofs.ends.Tx.TheSendSync as txs
+use Rattle.scp_gather.specs.scp_ends.proofs.ends.Rx.TheSendSync as rxs
+use Rattle.scp_gather.specs.scp_ends.proofs.ends.Done.TheSendSync as dones
+use Rattle.scp_gather.specs.scp_ends.proofs.ends.Nobody.TheSendSync as nobodies
+use Rattle.scp_gather.specs.scp_ends.proofs.gate.Counter.TheSendSync as counters
+use Rattle.scp_gather.specs.scp_workers.specs.contracts.worker.Worker as worker
+use Rattle.scp_gather.specs.scp_workers.specs.contracts.worker.Worker.TheInside as worker_inside
+use Rattle.scp_gather.specs.scp_workers.specs.contracts.worker.Ended as ended
+use Rattle.scp_gather.specs.scp_workers.specs.contracts.worker.Ended.TheInside as ended_inside
 use Rattle.scp_threaded_node.proofs.starting.start_worker.Goals as goal
 
 ruleset ends = (sendable, crosses, txs.the_send, rxs.the_send, dones.the_send, nobodies.the_send)

@@ -6,7 +6,7 @@ use Rattle.scp_threaded_script.specs.Reported.{IsLineFault}
 use Rattle.scp_threaded_script.specs.Waits.{AreWaits}
 use Rattle.scp_threaded_script.proofs.Waiting.{added_at}
 use Rattle.scp_script.specs.declared.command.Command.{Command}
-use Rattle.scp_shared_outbox.specs.Table.{AreRows}
+use Rattle.scp_threaded_node.specs.scp_shared_outbox.specs.Table.{AreRows}
 use Rattle.scp_threaded_script.specs.inside.Played.{HaveDone}
 use Rattle.scp_threaded_script.proofs.Acting.{unchanged_run, unchanged_done}
 use Rattle.scp_threaded_script.proofs.Doing.{done_run, have_lanes}

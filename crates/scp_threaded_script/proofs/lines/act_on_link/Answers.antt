@@ -2,7 +2,7 @@ use Rattle.std.proofs.Common.{◌≡◌, ◌∙◌, ◌<◌, length, Some, ap, s
 use Rattle.std.specs.Prelude.{slice_get}
 use Rattle.std.proofs.lemmas.Option.{slice_get-get_or}
 use Rattle.scp_threaded_node.specs.Kv.{Node}
-use Rattle.scp_shared_outbox.proofs.ListsOfAll.{there_is}
+use Rattle.scp_threaded_node.specs.scp_shared_outbox.proofs.ListsOfAll.{there_is}
 use Rattle.scp_threaded_script.proofs.Doing.{place_within, one_acted, one_unchanged}
 use Rattle.scp_threaded_script.proofs.lines.act_on_link.Goals as goal
 

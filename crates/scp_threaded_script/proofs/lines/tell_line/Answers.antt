@@ -1,5 +1,5 @@
 use Rattle.std.proofs.Common.{length, None, Some}
-use Rattle.scp_wire.specs.declared.link.Inbound.TheVariants as inbound
+use Rattle.scp_threaded_node.specs.scp_wire.specs.declared.link.Inbound.TheVariants as inbound
 use Rattle.scp_threaded_script.proofs.Doing.{done_run, found_is, tells_all_run, tells_all_done}
 use Rattle.scp_threaded_script.proofs.Telling.{silent_done}
 use Rattle.scp_threaded_script.proofs.Giving.{tells_all_given}

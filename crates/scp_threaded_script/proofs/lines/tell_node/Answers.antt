@@ -1,7 +1,7 @@
 use Rattle.std.proofs.Common.{◌≡◌, ◌∙◌, Some, ap, sym, arith}
 use Rattle.std.specs.Prelude.{slice_get}
 use Rattle.std.proofs.lemmas.Option.{slice_get-get_or}
-use Rattle.scp_wire.specs.declared.link.Inbound.TheVariants as inbound
+use Rattle.scp_threaded_node.specs.scp_wire.specs.declared.link.Inbound.TheVariants as inbound
 use Rattle.scp_threaded_node.specs.Kv.{Node}
 use Rattle.scp_threaded_script.proofs.Doing.{one_told, one_same}
 use Rattle.scp_threaded_script.proofs.lines.tell_node.Goals as goal

@@ -2,7 +2,7 @@ use Rattle.std.proofs.Common.{◌≡◌, ◌∙◌, ◌<◌, Some, length, ap, s
 use Rattle.std.specs.Prelude.{slice_get}
 use Rattle.std.specs.Global.{Vec}
 use Rattle.std.proofs.lemmas.Option.{slice_get-get_or}
-use Rattle.scp_shared_outbox.specs.Ends.{MarkerView}
+use Rattle.scp_threaded_node.specs.scp_shared_outbox.specs.Ends.{MarkerView}
 use Rattle.scp_threaded_node.proofs.Given.{map_set}
 use Rattle.scp_threaded_script.specs.inside.Outlets.{desks_in}
 use Rattle.scp_threaded_script.proofs.Doing.{place_within}

@@ -1,8 +1,8 @@
 use Rattle.std.proofs.Common.{◌≡◌, ◌∙◌, Some, ap, sym, arith}
 use Rattle.std.specs.Prelude.{slice_get}
 use Rattle.std.proofs.lemmas.Option.{slice_get-get_or}
-use Rattle.scp_shared_outbox.specs.Ends.{MarkerView}
-use Rattle.scp_shared_outbox.specs.Table.{desk_of}
+use Rattle.scp_threaded_node.specs.scp_shared_outbox.specs.Ends.{MarkerView}
+use Rattle.scp_threaded_node.specs.scp_shared_outbox.specs.Table.{desk_of}
 use Rattle.scp_threaded_node.proofs.Given.{map_set}
 use Rattle.scp_threaded_script.proofs.outboxes.leave_in.Goals as goal
 

@@ -3,7 +3,7 @@ use Rattle.std.specs.Prelude.{map, take, drop}
 use Rattle.std.specs.Global.{Vec}
 use Rattle.std.proofs.lemmas.List.{drop_all, take_all, append-nil, length-map}
 use Rattle.std.proofs.lemmas.Option.{slice_get-get_or}
-use Rattle.scp_shared_outbox.specs.Ends.{MarkerView}
+use Rattle.scp_threaded_node.specs.scp_shared_outbox.specs.Ends.{MarkerView}
 use Rattle.scp_threaded_script.specs.inside.Outlets.{desks_in}
 use Rattle.scp_threaded_node.proofs.Given.{map_set}
 use Rattle.scp_threaded_script.proofs.outboxes.stop_all.Goals as goal

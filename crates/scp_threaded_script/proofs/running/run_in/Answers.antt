@@ -1,7 +1,7 @@
 use Rattle.std.proofs.Common.{◌≡◌, ◌∙◌, ℕ, ◌≤◌, List, length, Result, Ok, sym, ap, subst, arith}
 use Rattle.std.specs.Prelude.{IfOk, OnOk, OnErr}
 use Rattle.std.proofs.lemmas.List.{length-map}
-use Rattle.scp_shared_outbox.specs.Table.{AreAllBack, AllCameOut}
+use Rattle.scp_threaded_node.specs.scp_shared_outbox.specs.Table.{AreAllBack, AllCameOut}
 use Rattle.scp_threaded_node.specs.scp_gather.specs.Kv.{NodeReport}
 use Rattle.scp_threaded_node.specs.Outlets.{given_to}
 use Rattle.scp_threaded_script.specs.Reported.{AreNodesReported, AreAllKept}
@@ -11,7 +11,7 @@ use Rattle.scp_threaded_script.specs.inside.Over.{AreOver}
 use Rattle.scp_threaded_script.proofs.Travelling.{all_back, nodes_reported}
 use Rattle.std.proofs.lemmas.Result.{err_from_is_err_and}
 use Rattle.std.specs.Prelude.{Err}
-use Rattle.scp_types.specs.declared.limits.TheConstants.{NODE_LIMIT}
+use Rattle.scp_threaded_node.specs.scp_types.specs.declared.limits.TheConstants.{NODE_LIMIT}
 use Rattle.scp_script.specs.Script.{node_count}
 use Rattle.scp_threaded_script.proofs.Ending.{all_numbered, all_given_up, not_started}
 use Rattle.scp_threaded_script.proofs.running.run_in.Goals as goal

@@ -1,6 +1,6 @@
 use Rattle.std.proofs.Common.{◌≤◌, arith}
 use Rattle.std.proofs.lemmas.Result.{err_from_is_err_and}
-use Rattle.scp_types.specs.declared.limits.TheConstants.{NODE_LIMIT}
+use Rattle.scp_threaded_node.specs.scp_types.specs.declared.limits.TheConstants.{NODE_LIMIT}
 use Rattle.scp_script.specs.Script.{node_count}
 use Rattle.scp_threaded_script.proofs.Ending.{not_started}
 use Rattle.scp_threaded_script.proofs.running.run_lines.Goals as goal

@@ -1,12 +1,12 @@
 use Rattle.std.proofs.Common.{◌≡◌, ◌∙◌, ℕ, List, [], ◌∷◌, ◌++◌, length, Option, ap, sym, subst, append_assoc, arith}
 use Rattle.std.specs.Prelude.{is_none}
 use Rattle.std.proofs.lemmas.List.{length-append, nil_from_length, append-nil}
-use Rattle.scp_shared_outbox.specs.Ends.{TakerView}
-use Rattle.scp_shared_outbox.specs.Places.{peer_at}
+use Rattle.scp_threaded_node.specs.scp_shared_outbox.specs.Ends.{TakerView}
+use Rattle.scp_threaded_node.specs.scp_shared_outbox.specs.Places.{peer_at}
 use Rattle.scp_threaded_node.specs.declared.node.Source.{Source}
 use Rattle.scp_threaded_script.specs.Lines.{is_driven}
 use Rattle.scp_threaded_script.specs.inside.Outlets.{AreTakenFrom}
-use Rattle.scp_shared_outbox.proofs.Each.{each_push}
+use Rattle.scp_threaded_node.specs.scp_shared_outbox.proofs.Each.{each_push}
 use Rattle.scp_threaded_script.proofs.Seating.{taken_more}
 use Rattle.scp_threaded_script.proofs.running.sources_of.Goals as goal
 

@@ -1,8 +1,8 @@
 use Rattle.std.proofs.Common.{◌≡◌, ◌∙◌, ℕ, ap, sym, subst, ◌+◌, ◌≤◌, List, [], ◌∷◌, ◌++◌, length, arith}
 use Rattle.std.proofs.lemmas.List.{length-append, nil_from_length}
-use Rattle.scp_shared_outbox.specs.Ends.{TakerView}
-use Rattle.scp_shared_outbox.specs.declared.outlets.Outlets.{Outlets}
-use Rattle.scp_shared_outbox.specs.Table.{AreOutletsOf}
+use Rattle.scp_threaded_node.specs.scp_shared_outbox.specs.Ends.{TakerView}
+use Rattle.scp_threaded_node.specs.scp_shared_outbox.specs.declared.outlets.Outlets.{Outlets}
+use Rattle.scp_threaded_node.specs.scp_shared_outbox.specs.Table.{AreOutletsOf}
 use Rattle.scp_script.specs.Nodes.{id_of, peers_of, set_at, capacities_in}
 use Rattle.scp_threaded_node.specs.Kv.{Node}
 use Rattle.scp_threaded_node.specs.Outlets.{given_to}

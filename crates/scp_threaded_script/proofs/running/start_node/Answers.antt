@@ -1,10 +1,10 @@
 use Rattle.std.proofs.Common.{◌≡◌, ◌∙◌, ap, subst, length, Result, Ok, Err, arith}
 use Rattle.std.specs.Prelude.{IfOk}
 use Rattle.std.proofs.lemmas.Result.{err_from_is_err_and}
-use Rattle.scp_types.specs.declared.capacities.Capacities.{Capacities}
+use Rattle.scp_threaded_node.specs.scp_types.specs.declared.capacities.Capacities.{Capacities}
 use Rattle.scp_script.specs.Nodes.{id_of, peers_of, set_at, capacities_in}
 use Rattle.scp_threaded_node.specs.Seats.{AreLanes, IsLocal, AreStages}
-use Rattle.scp_types.specs.declared.fault.Fault.{Fault}
+use Rattle.scp_threaded_node.specs.scp_types.specs.declared.fault.Fault.{Fault}
 use Rattle.scp_threaded_node.specs.Kv.{Node}
 use Rattle.scp_threaded_node.specs.Outlets.{GivenEnds, given_to}
 use Rattle.scp_threaded_script.specs.Lines.{driven_to}

@@ -1,6 +1,6 @@
 use Rattle.std.proofs.Common.{◌≡◌}
 use Rattle.scp_threaded_script.specs.Reported.{stood_on}
-use Rattle.scp_shared_outbox.proofs.Peers.{ArePeers}
+use Rattle.scp_threaded_node.specs.scp_shared_outbox.proofs.Peers.{ArePeers}
 use Rattle.scp_threaded_script.proofs.running.stood_to.Given as goal
 
 abbrev pub invariant-loop-index : goal.invariant-loop-index

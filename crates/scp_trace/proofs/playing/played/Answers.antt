@@ -1,5 +1,5 @@
 use Rattle.std.proofs.Common.{◌∙◌, ◌++◌, refl, sym, ap, string_bytes}
-use Rattle.scp_turn.specs.Heard.{Nodes}
+use Rattle.scp_line.specs.scp_turn.specs.Heard.{Nodes}
 use Rattle.scp_trace.specs.Traced.{facts_part}
 use Rattle.scp_trace.proofs.Runs.{whole_if, cut_of_script}
 use Rattle.scp_trace.proofs.playing.played.Goals as goal

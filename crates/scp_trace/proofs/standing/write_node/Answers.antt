@@ -1,6 +1,6 @@
 use Rattle.std.proofs.Common.{◌≡◌, ◌+◌, ◌-◌, Some, subst, string_bytes, arith}
 use Rattle.std.specs.Prelude.{slice_get}
-use Rattle.scp_turn.specs.Heard.{Nodes}
+use Rattle.scp_line.specs.scp_turn.specs.Heard.{Nodes}
 use Rattle.scp_trace.proofs.Seen.{seen_at, read_at, node_told}
 use Rattle.scp_trace.proofs.standing.write_node.Goals as goal
 

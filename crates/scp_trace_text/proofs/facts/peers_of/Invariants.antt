@@ -1,5 +1,5 @@
 use Rattle.std.proofs.Common.{◌≡◌, ◌++◌, map, drop}
-use Rattle.scp_turn.specs.scp_core.specs.History.{peer_at}
+use Rattle.scp_facts.specs.scp_core.specs.History.{peer_at}
 use Rattle.scp_trace_text.proofs.facts.peers_of.Given as goal
 
 -- with those of what is left they are all

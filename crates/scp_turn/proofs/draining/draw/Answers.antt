@@ -1,5 +1,5 @@
 use Rattle.std.proofs.Common.{List, [], ◌∷◌, ◌++◌, refl, subst}
-use Rattle.scp_types.specs.declared.fault.Fault.TheVariants.{NoMemory}
+use Rattle.scp_core.specs.scp_types.specs.declared.fault.Fault.TheVariants.{NoMemory}
 use Rattle.scp_core.specs.declared.event.Event.TheVariants.{Drain}
 use Rattle.scp_core.specs.declared.event.Reply.{Reply}
 use Rattle.scp_core.specs.History.{Exchange}

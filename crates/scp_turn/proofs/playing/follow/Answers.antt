@@ -1,4 +1,4 @@
-use Rattle.scp_types.specs.declared.fault.Fault.TheVariants.{Failed}
+use Rattle.scp_core.specs.scp_types.specs.declared.fault.Fault.TheVariants.{Failed}
 use Rattle.scp_turn.specs.Watch.{notes}
 use Rattle.scp_turn.proofs.Episodes.{rests_and_fails, rests_and_drains}
 use Rattle.scp_turn.proofs.playing.follow.Goals as goal

@@ -1,6 +1,6 @@
 use Rattle.std.proofs.Common.{◌≡◌, List, refl, sym, ◌∙◌, ap, subst}
 use Rattle.std.specs.Prelude.{Result, Err, is_some}
-use Rattle.scp_types.specs.declared.fault.Fault.{Fault}
+use Rattle.scp_core.specs.scp_types.specs.declared.fault.Fault.{Fault}
 use Rattle.scp_turn.specs.Watch.{notes}
 use Rattle.scp_turn.specs.declared.sending.Sending.{Sending}
 use Rattle.scp_turn.specs.inside.Cause.{cause_of}

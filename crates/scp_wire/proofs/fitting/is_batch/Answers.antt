@@ -1,7 +1,7 @@
 use Rattle.std.proofs.Common.{ℕ, List, subst}
 use Rattle.std.proofs.lemmas.List.{map-id}
-use Rattle.scp_xdr.specs.Kind.{Fits, numbered}
-use Rattle.scp_xdr.specs.Shared.{value_kind}
+use Rattle.scp_quorum.specs.scp_xdr.specs.Kind.{Fits, numbered}
+use Rattle.scp_quorum.specs.scp_xdr.specs.Shared.{value_kind}
 use Rattle.scp_wire.proofs.Room.{within_room}
 use Rattle.scp_wire.proofs.fitting.is_batch.Goals as goal
 

@@ -1,5 +1,5 @@
 use Rattle.std.proofs.Common.{subst}
-use Rattle.scp_wire.specs.declared.message.Message.{Message}
+use Rattle.scp_theorem.specs.scp_wire.specs.declared.message.Message.{Message}
 use Rattle.scp_workers.specs.inside.Handing.{PutsAt}
 use Rattle.scp_workers.proofs.Outlets.{at_same, at_puts}
 use Rattle.scp_workers.proofs.handing.hand.Goals as goal

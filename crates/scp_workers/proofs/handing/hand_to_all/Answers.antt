@@ -2,11 +2,11 @@ use Rattle.std.proofs.Common.{◌≡◌, ◌<◌, ◌≤◌, [], ◌∷◌, ◌+
 use Rattle.std.specs.Prelude.{List}
 use Rattle.std.proofs.lemmas.List.{set-get_or}
 use Rattle.std.proofs.lemmas.Option.{slice_get-get_or}
-use Rattle.scp_envelope.specs.declared.statement.Envelope.{Envelope as Enveloped}
-use Rattle.scp_wire.specs.declared.message.Message.{Message}
-use Rattle.scp_wire.specs.declared.message.Message.TheVariants.{Envelope}
+use Rattle.scp_theorem.specs.scp_envelope.specs.declared.statement.Envelope.{Envelope as Enveloped}
+use Rattle.scp_theorem.specs.scp_wire.specs.declared.message.Message.{Message}
+use Rattle.scp_theorem.specs.scp_wire.specs.declared.message.Message.TheVariants.{Envelope}
 use Rattle.scp_shared_outbox.specs.Ends.{PutterView}
-use Rattle.scp_ledger.specs.declared.took.Outgoing.TheVariants.{ToAll}
+use Rattle.scp_theorem.specs.scp_ledger.specs.declared.took.Outgoing.TheVariants.{ToAll}
 use Rattle.scp_workers.specs.Working.{AreSameOutlets}
 use Rattle.scp_workers.specs.inside.Handing.{PutsOut}
 use Rattle.scp_workers.proofs.Outlets.{put_back, one_put, below_same, all_put}

@@ -1,4 +1,4 @@
-use Rattle.scp_wire.specs.declared.message.Message.TheVariants.{Envelope}
+use Rattle.scp_theorem.specs.scp_wire.specs.declared.message.Message.TheVariants.{Envelope}
 use Rattle.scp_workers.proofs.Outlets.{PutBelow}
 use Rattle.scp_workers.proofs.handing.hand_to_all.Given as goal
 

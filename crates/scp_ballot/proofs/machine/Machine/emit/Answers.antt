@@ -1,5 +1,5 @@
 use Rattle.std.proofs.Common.{refl, ◌∙◌, ap}
-use Rattle.scp_envelope.specs.declared.statement.Envelope.{Envelope}
+use Rattle.scp_ballot_rules.specs.scp_envelope.specs.declared.statement.Envelope.{Envelope}
 use Rattle.scp_ballot.specs.inside.Gives.{IsWorth}
 use Rattle.scp_ballot.proofs.Emitting.{emits_none, emits_some}
 use Rattle.scp_ballot_rules.proofs.Stepping.{refuted}

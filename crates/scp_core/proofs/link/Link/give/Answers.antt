@@ -1,6 +1,6 @@
 use Rattle.std.proofs.Common.{rules, ◌≡◌, ◌++◌, ap, refl}
 use Rattle.std.specs.Prelude.{Option, Some, option_to_list}
-use Rattle.scp_wire.specs.declared.link.Inbound.{Inbound}
+use Rattle.scp_theorem.specs.scp_wire.specs.declared.link.Inbound.{Inbound}
 use Rattle.scp_core.proofs.link.Link.give.Goals as goal
 
 pub returns-in-Some : goal.returns-in-Some

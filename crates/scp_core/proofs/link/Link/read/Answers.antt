@@ -1,5 +1,5 @@
 use Rattle.std.proofs.Common.{rules, ap, length}
-use Rattle.scp_wire.specs.LinkReading.{reading}
+use Rattle.scp_theorem.specs.scp_wire.specs.LinkReading.{reading}
 use Rattle.scp_core.specs.contracts.link.Link.{the_view}
 use Rattle.scp_core.proofs.Links.{read_into, one_out}
 use Rattle.scp_core.proofs.link.Link.read.Goals as goal

@@ -1,5 +1,5 @@
 use Rattle.std.proofs.Common.{◌∙◌, ap, sym, subst}
-use Rattle.scp_types.specs.declared.names.NodeId.{NodeId}
+use Rattle.scp_theorem.specs.scp_types.specs.declared.names.NodeId.{NodeId}
 use Rattle.scp_core.specs.History.{peer_at}
 use Rattle.scp_core.specs.Node.{NodeView}
 use Rattle.scp_core.specs.inside.Links.{Opens, OnLinks}

@@ -1,5 +1,5 @@
 use Rattle.std.proofs.Common.{rules, ◌≡◌, refl, sym, subst, inl, inr, None}
-use Rattle.scp_pending.specs.Pends.{IsIdle}
+use Rattle.scp_theorem.specs.scp_pending.specs.Pends.{IsIdle}
 use Rattle.scp_core.proofs.Handlers.{is_idle}
 use Rattle.scp_core.proofs.node.Node.pend_take.Goals as goal
 

@@ -1,7 +1,7 @@
 use Rattle.std.proofs.Common.{◌∙◌, sym, ap}
 use Rattle.std.specs.Prelude.{length}
-use Rattle.scp_ledger.specs.declared.took.Took.{Took}
-use Rattle.scp_ledger.specs.Seen.{LedgerView}
+use Rattle.scp_theorem.specs.scp_ledger.specs.declared.took.Took.{Took}
+use Rattle.scp_theorem.specs.scp_ledger.specs.Seen.{LedgerView}
 use Rattle.scp_core.specs.declared.stage.Given.{Given}
 use Rattle.scp_core.proofs.Staging.{given_by, takes_out, refused_shows, cut_shows, full_as, isnt_full, taken_isnt, given_isnt, no_memory_isnt}
 use Rattle.scp_core.proofs.stage.SlotStage.take.Goals as goal

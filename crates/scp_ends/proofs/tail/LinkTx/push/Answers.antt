@@ -1,5 +1,5 @@
 use Rattle.std.proofs.Common.{sym, subst}
-use Rattle.scp_wire.specs.Tails.{GoesNext}
+use Rattle.scp_ledger.specs.scp_wire.specs.Tails.{GoesNext}
 use Rattle.scp_ends.specs.Links.{LinkEnd, stands}
 use Rattle.scp_ends.proofs.Tails.{grown}
 use Rattle.scp_ends.proofs.tail.LinkTx.push.Goals as goal

@@ -1,8 +1,8 @@
 use Rattle.std.proofs.Common.{sym, subst}
 use Rattle.std.specs.Prelude.{IsTrue, IsSomeAnd, ◌↔◌}
-use Rattle.scp_vote.specs.Seen.{seen}
-use Rattle.scp_vote.specs.declared.board.Board.{Board}
-use Rattle.scp_vote.specs.declared.claim.StatementKind.TheVariants.{Balloting}
+use Rattle.scp_slot.specs.scp_vote.specs.Seen.{seen}
+use Rattle.scp_slot.specs.scp_vote.specs.declared.board.Board.{Board}
+use Rattle.scp_slot.specs.scp_vote.specs.declared.claim.StatementKind.TheVariants.{Balloting}
 use Rattle.scp_slot.specs.scp_ballot.specs.Balloting.{Ballots, HasBallot, HasCounter}
 use Rattle.scp_ledger.specs.Seen.{machine_at}
 use Rattle.scp_ledger.proofs.Telling.{idle_some}

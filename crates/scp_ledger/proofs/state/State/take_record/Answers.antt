@@ -1,7 +1,7 @@
 use Rattle.std.proofs.Common.{◌≡◌, ◌∷◌, [], sym, ◌∙◌, ap, subst, inl, inr, ℕ, List}
 use Rattle.std.specs.Prelude.{Some, false}
-use Rattle.scp_types.specs.declared.names.NodeId.{NodeId}
-use Rattle.scp_wire.specs.declared.message.Message.TheVariants.{Record}
+use Rattle.scp_slot.specs.scp_types.specs.declared.names.NodeId.{NodeId}
+use Rattle.scp_pending.specs.scp_wire.specs.declared.message.Message.TheVariants.{Record}
 use Rattle.scp_ledger.specs.declared.journal.Verdict.TheVariants.{Decided}
 use Rattle.scp_ledger.specs.declared.journal.Fate.TheVariants.{Taken}
 use Rattle.scp_ledger.specs.inside.State.{state_view}

@@ -1,8 +1,8 @@
 use Rattle.std.proofs.Common.{◌≡◌, true, ◌∙◌, ap, subst, string_bytes}
 use Rattle.std.specs.Prelude.{◌↔◌, IsErrOf, map}
-use Rattle.scp_types.specs.declared.fault.Fault.TheVariants.{Failed}
+use Rattle.scp_again.specs.scp_types.specs.declared.fault.Fault.TheVariants.{Failed}
 use Rattle.scp_turn.specs.Watch.{notes}
-use Rattle.scp_core.specs.Kv.{NodeView}
+use Rattle.scp_again.specs.scp_core.specs.Kv.{NodeView}
 use Rattle.scp_turn.specs.Kv.{Watched}
 use Rattle.scp_live.specs.Live.{LiveView}
 use Rattle.scp_live.proofs.Texts.{acts_beside_as}

@@ -1,7 +1,7 @@
 use Rattle.std.proofs.Common.{◌≡◌, ◌∙◌, ℕ, List, false, ap, subst, string_bytes}
 use Rattle.std.specs.Prelude.{OnOk, map}
-use Rattle.scp_wire.specs.declared.message.Message.{Message}
-use Rattle.scp_ledger.specs.Kv.{KvLedger}
+use Rattle.scp_again.specs.scp_wire.specs.declared.message.Message.{Message}
+use Rattle.scp_again.specs.scp_ledger.specs.Kv.{KvLedger}
 use Rattle.scp_live_lines.specs.Names.{name_at}
 use Rattle.scp_live.specs.Live.{LiveView}
 use Rattle.scp_again.specs.Again.{again_of}

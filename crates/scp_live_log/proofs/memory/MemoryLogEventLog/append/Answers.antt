@@ -3,5 +3,5 @@ use Rattle.scp_live_log.proofs.memory.MemoryLogEventLog.append.Goals as goal
 
 pub returns-clause-time : goal.returns-clause-time
 returns-clause-time c =
-    let past = c.in_ok-replace.ensures.past in
-    elapses_to c.args.self.now.past.items c.replace.new.past.items past.0 c.args.self.now.bytes.items c.replace.new.bytes.items past.1 past.2
+    let past = c.in_ok-put.ensures.past in
+    elapses_to c.args.self.now.past.items c.put.new.past.items past.0 c.args.self.now.bytes.items c.put.new.bytes.items past.1 past.2

@@ -1,7 +1,7 @@
 use Rattle.std.proofs.Common.{◌≡◌, List, refl, sym, subst, inl, inr, [], Contains, rules}
 use Rattle.scp_nominate.proofs.Growing.{votes_trans, tried_stays}
 use Rattle.scp_nominate.proofs.Suggesting.{none_of}
-use Rattle.scp_types.specs.declared.names.NodeId.{NodeId}
+use Rattle.scp_vote.specs.scp_types.specs.declared.names.NodeId.{NodeId}
 use Rattle.scp_nominate.specs.Heard.{heard}
 use Rattle.scp_driver.specs.Driver.{IsFull}
 use Rattle.scp_nominate.specs.inside.Values.{items}

@@ -1,5 +1,5 @@
 use Rattle.std.proofs.Common.{◌∙◌, ap, subst, List, inl, inr, Some, Contains, rules}
-use Rattle.scp_types.specs.declared.names.NodeId.{NodeId}
+use Rattle.scp_vote.specs.scp_types.specs.declared.names.NodeId.{NodeId}
 use Rattle.scp_nominate.specs.inside.Values.{items}
 use Rattle.scp_nominate.proofs.Leading.{tried_some}
 use Rattle.scp_nominate.proofs.Turns.{votes_some}

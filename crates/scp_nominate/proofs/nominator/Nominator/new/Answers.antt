@@ -1,9 +1,9 @@
 use Rattle.std.proofs.Common.{◌≡◌, ◌↔◌, ◌⊎◌, Contains, slice_get, refl, sym, subst, Some, length, rules}
-use Rattle.scp_types.specs.declared.names.NodeId.{NodeId}
+use Rattle.scp_vote.specs.scp_types.specs.declared.names.NodeId.{NodeId}
 use Rattle.scp_driver.specs.Driver.{IsFull}
 use Rattle.scp_nominate.specs.Heard.{heard}
 use Rattle.scp_nominate.specs.Turns.{Leads, AreInTurn}
-use Rattle.scp_quorum.specs.QuorumTree.{QuorumTree}
+use Rattle.scp_vote.specs.scp_quorum.specs.QuorumTree.{QuorumTree}
 use Rattle.scp_nominate.proofs.Advancing.{begins_rests, begins_paid}
 use Rattle.scp_nominate.proofs.Turning.{first_leads, some_turn}
 use Rattle.scp_nominate.proofs.Inserting.{none_ascend}

@@ -1,5 +1,5 @@
 use Rattle.std.proofs.Common.{◌≡◌, ◌+◌, ◌↔◌, ◌⊎◌, Contains, slice_get, subst, Some, false, length, arith, rules}
-use Rattle.scp_types.specs.declared.names.NodeId.{NodeId}
+use Rattle.scp_vote.specs.scp_types.specs.declared.names.NodeId.{NodeId}
 use Rattle.scp_driver.specs.Driver.{IsFull}
 use Rattle.scp_nominate.specs.Heard.{heard}
 use Rattle.scp_nominate.specs.Steps.{own_lists}

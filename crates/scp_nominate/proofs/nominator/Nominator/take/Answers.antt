@@ -9,7 +9,7 @@ use Rattle.scp_nominate.specs.State.{own_at}
 use Rattle.scp_nominate.specs.Nomination.{Advances, nomination_of}
 use Rattle.scp_nominate.proofs.Advancing.{advances, works, paid_by, keeps_others, heard_rests, same_own, hears_of, turns_kept}
 use Rattle.scp_nominate.proofs.Suggesting.{own_lists_of, votes_led}
-use Rattle.scp_types.specs.declared.names.Hash.{Hash}
+use Rattle.scp_vote.specs.scp_types.specs.declared.names.Hash.{Hash}
 use Rattle.scp_nominate.specs.Repeating.{Rule, LeadsTo}
 use Rattle.scp_nominate.proofs.Repeated.{leads_to}
 use Rattle.scp_nominate.proofs.nominator.Nominator.take.Goals as goal

@@ -1,6 +1,6 @@
 use Rattle.std.proofs.Common.{rules, false}
-use Rattle.scp_quorum.specs.QuorumKind.{set_kind, set_value}
-use Rattle.scp_xdr.specs.Kind.{Fits}
+use Rattle.scp_wire.specs.scp_quorum.specs.QuorumKind.{set_kind, set_value}
+use Rattle.scp_wire.specs.scp_xdr.specs.Kind.{Fits}
 use Rattle.scp_pending.specs.Rules.{PendingView}
 use Rattle.scp_pending.proofs.Hearing.{answer_insane, not_sane, fits_unless}
 use Rattle.scp_pending.proofs.pending.Parking.hear_insane.Goals as goal

@@ -1,6 +1,6 @@
 use Rattle.std.proofs.Common.{◌≡◌, List, sym, subst, false}
 use Rattle.std.specs.List.{AllByRecursion}
-use Rattle.scp_types.specs.declared.names.ConnId.{ConnId}
+use Rattle.scp_wire.specs.scp_types.specs.declared.names.ConnId.{ConnId}
 use Rattle.scp_fetch.specs.Wants.{has_conn}
 use Rattle.scp_pending.specs.Queues.{QueueView, is_hash}
 use Rattle.scp_pending.specs.Rules.{PendingView}

@@ -1,6 +1,6 @@
 use Rattle.std.proofs.Common.{rules}
-use Rattle.scp_quorum.specs.QuorumKind.{set_kind, set_value}
-use Rattle.scp_xdr.specs.Kind.{Fits}
+use Rattle.scp_wire.specs.scp_quorum.specs.QuorumKind.{set_kind, set_value}
+use Rattle.scp_wire.specs.scp_xdr.specs.Kind.{Fits}
 use Rattle.scp_pending.specs.Rules.{Settled}
 use Rattle.scp_pending.proofs.Hearing.{fits_unless}
 use Rattle.scp_pending.proofs.SetComing.{unspelt_is, stored_is, bad_is}

@@ -4,7 +4,7 @@ use Rattle.std.specs.BTreeSet.{BTreeSet, btree_set_len}
 use Rattle.std.proofs.lemmas.Bool.{OnFalse_from, OnFalse_at}
 use Rattle.std.proofs.lemmas.Grind.{common_steps}
 use Rattle.std.proofs.lemmas.List.Elements.{All-contains}
-use Rattle.scp_types.specs.declared.names.NodeId.{NodeId}
+use Rattle.scp_xdr.specs.scp_types.specs.declared.names.NodeId.{NodeId}
 use Rattle.scp_quorum.specs.NodeSet.{is_in}
 use Rattle.scp_quorum.proofs.Members.{IsRemoving, removing_none, removing_one, removing_no_one}
 use Rattle.scp_quorum.proofs.quorum.groups.remove_members.Goals as goal

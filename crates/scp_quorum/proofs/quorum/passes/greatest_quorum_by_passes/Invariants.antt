@@ -1,6 +1,6 @@
 use Rattle.std.proofs.Common.{Bool}
 use Rattle.std.specs.BTreeSet.{btree_set_len}
-use Rattle.scp_types.specs.declared.names.NodeId.{NodeId}
+use Rattle.scp_xdr.specs.scp_types.specs.declared.names.NodeId.{NodeId}
 use Rattle.scp_quorum.specs.NodeSet.{is_in}
 use Rattle.scp_quorum.specs.Quorum.{set_of, SatisfyThemselves, IsWithin}
 use Rattle.scp_quorum.specs.inside.Quorum.{AllHaveSets}

@@ -3,7 +3,7 @@ use Rattle.std.specs.Prelude.{map}
 use Rattle.std.specs.List.{All, AllByRecursion}
 use Rattle.std.proofs.lemmas.Grind.{common_steps}
 use Rattle.std.proofs.lemmas.List.Elements.{All-more, All-from_recursion, recursion_from_All}
-use Rattle.scp_types.specs.declared.names.NodeId.{NodeId}
+use Rattle.scp_xdr.specs.scp_types.specs.declared.names.NodeId.{NodeId}
 use Rattle.scp_xdr.specs.Kind.{Fits, array, limit_at}
 use Rattle.scp_xdr.specs.Shared.{node_kind, node_value}
 use Rattle.scp_quorum.specs.QuorumTree.{QuorumTree}

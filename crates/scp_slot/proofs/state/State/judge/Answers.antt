@@ -1,7 +1,7 @@
 use Rattle.std.proofs.Common.{◌≡◌, ◌≢◌, Bool, true, false, Option, Some, None, refl, sym, ◌∙◌, ap, subst, inl, inr, rules}
-use Rattle.scp_envelope.specs.Sane.{IsSane}
+use Rattle.scp_nominate.specs.scp_envelope.specs.Sane.{IsSane}
 use Rattle.scp_nominate.specs.Nomination as nominate
-use Rattle.scp_vote.specs.Board.{kind_of_pledges}
+use Rattle.scp_nominate.specs.scp_vote.specs.Board.{kind_of_pledges}
 use Rattle.scp_slot.specs.Judged.{HasInvalid, IsBehind}
 use Rattle.scp_slot.specs.Newest.{newest_of}
 use Rattle.scp_slot.proofs.state.State.judge.Goals as goal

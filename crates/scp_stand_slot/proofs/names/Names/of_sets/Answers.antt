@@ -1,6 +1,6 @@
 use Rattle.std.proofs.Common.{◌++◌, ◌∷◌, [], List, take, sym, ◌∙◌, ap, subst}
 use Rattle.std.proofs.lemmas.List.{take_more}
-use Rattle.scp_quorum.specs.QuorumTree.{QuorumTree}
+use Rattle.scp_slot.specs.scp_quorum.specs.QuorumTree.{QuorumTree}
 use Rattle.scp_stand_slot.specs.Names.{AreNamesOf}
 use Rattle.scp_stand_slot.proofs.names.Names.of_sets.Goals as goal
 

@@ -1,5 +1,5 @@
 use Rattle.std.proofs.Common.{◌≡◌, take, string_bytes}
-use Rattle.scp_script.specs.declared.command.Command.TheVariants.{Report}
+use Rattle.scp_line.specs.scp_script.specs.declared.command.Command.TheVariants.{Report}
 use Rattle.scp_trace.proofs.Watching.{stand_asked}
 use Rattle.scp_trace.proofs.tracing.TraceWatch.write_reported.Goals as goal
 

@@ -1,5 +1,5 @@
 use Rattle.std.proofs.Common.{◌∙◌, ap, string_bytes}
-use Rattle.scp_facts.specs.Watching.{WatchView}
+use Rattle.scp_trace_text.specs.scp_facts.specs.Watching.{WatchView}
 use Rattle.scp_trace.proofs.Watching.{facts_written, facts_left}
 use Rattle.scp_trace.proofs.tracing.TraceWatch.write_told.Goals as goal
 

@@ -7,7 +7,7 @@ use Rattle.scp_quorum.specs.Places.{marked}
 use Rattle.scp_vote.specs.inside.Seats.{place_in}
 use Rattle.scp_vote.proofs.Picking.{Entries, IsPicking, picking_by, picking_takes}
 use Rattle.std.specs.Option.{option_map}
-use Rattle.scp_types.specs.declared.names.NodeId.{NodeId}
+use Rattle.scp_quorum.specs.scp_types.specs.declared.names.NodeId.{NodeId}
 use Rattle.scp_quorum.specs.Places.{is_marked_at}
 use Rattle.scp_vote.specs.declared.statements.Entry.{Entry}
 use Rattle.scp_vote.proofs.statements.Side.nodes_at.Goals as goal

@@ -1,6 +1,6 @@
 use Rattle.std.proofs.Common.{◌++◌, ◌∷◌, [], ◌∙◌, ℕ, sym, subst}
-use Rattle.scp_ledger.specs.Onwards.{KeepsWindow}
-use Rattle.scp_apply.specs.Applies.{Applies}
+use Rattle.scp_theorem.specs.scp_ledger.specs.Onwards.{KeepsWindow}
+use Rattle.scp_theorem.specs.scp_apply.specs.Applies.{Applies}
 use Rattle.scp_theorem.specs.Handed.{Answers}
 use Rattle.scp_workers.specs.Handing.{outgoing_of}
 use Rattle.scp_theorem.proofs.Serving.{answers_one}
@@ -20,6 +20,7 @@ returns-in-Ok-clause-runs g c = λ first took gave out h.
         applies = applies;
         answers = answers_one first old new took out (outgoing_of c.answered.result) c.args.onward c.in-Ok.answer h.answers answer c.answered.ensures.made;
         from_one = c.take.ensures.first ∙ h.from_one;
+        no_base = c.take.ensures.base ∙ h.no_base;
       },
       tt,
     )

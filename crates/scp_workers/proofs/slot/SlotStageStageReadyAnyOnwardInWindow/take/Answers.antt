@@ -1,7 +1,7 @@
 use Rattle.std.proofs.Common.{[], ◌∷◌, ◌++◌, ◌∙◌, ℕ, subst}
 use Rattle.std.specs.Prelude.{option_to_list}
-use Rattle.scp_ledger.specs.By.{JournalsBy}
-use Rattle.scp_ledger.specs.Onwards.{KeepsWindow}
+use Rattle.scp_theorem.specs.scp_ledger.specs.By.{JournalsBy}
+use Rattle.scp_theorem.specs.scp_ledger.specs.Onwards.{KeepsWindow}
 use Rattle.scp_theorem.specs.Handed.{Serves}
 use Rattle.scp_workers.proofs.Fates.{fates_more}
 use Rattle.scp_workers.proofs.slot.SlotStageStageReadyAnyOnwardInWindow.take.Goals as goal

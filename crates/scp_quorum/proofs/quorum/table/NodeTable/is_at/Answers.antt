@@ -2,7 +2,7 @@ use Rattle.std.proofs.Common.{◌≡◌, List, sym, ◌∙◌, subst}
 use Rattle.std.specs.List.{Contains}
 use Rattle.std.proofs.lemmas.Bool.{OnTrue_from}
 use Rattle.std.proofs.lemmas.Slice.Eq.{bytes_eq-Decides}
-use Rattle.scp_types.specs.declared.names.NodeId.{NodeId}
+use Rattle.scp_xdr.specs.scp_types.specs.declared.names.NodeId.{NodeId}
 use Rattle.scp_quorum.proofs.Table.{contains_found}
 use Rattle.scp_quorum.proofs.quorum.table.NodeTable.is_at.Goals as goal
 

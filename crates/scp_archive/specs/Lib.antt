@@ -1,0 +1,9 @@
+pub use Rattle.scp_quorum.specs.scp_types
+pub use Rattle.scp_quorum.specs.scp_xdr
+pub use Rattle.scp_quorum
+pub use Rattle.scp_envelope
+pub use Rattle.scp_device
+pub mod Entry
+pub mod Stream
+pub mod Laws
+pub mod inside

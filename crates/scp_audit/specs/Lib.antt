@@ -1,0 +1,4 @@
+pub mod Judging
+pub mod Audit
+pub mod Laws
+pub mod inside

@@ -1,0 +1,4 @@
+pub mod Back
+pub mod Floats
+pub mod Made
+pub mod Unsaid

@@ -1,0 +1,7 @@
+pub mod Newest
+pub mod Judging
+pub mod Lacking
+pub mod Boards
+pub mod Externalized
+pub mod Backed
+pub mod Adding

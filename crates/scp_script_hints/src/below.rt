@@ -1,0 +1,9 @@
+//! What crates above take of those that this one is built on: a module for each, by its name without `scp_`.
+
+pub mod types {
+    pub use scp_script::below::types::NODE_LIMIT;
+}
+
+pub mod script {
+    pub use scp_script::{Command, count_of_nodes};
+}
