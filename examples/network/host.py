@@ -5,14 +5,15 @@ usage: host.py PROGRAM FOLDER NAME [--life N] [--no-log] [--unit SECONDS] [--unt
 
 In FOLDER lie:
   NAME.toml       the configuration
-  NAME.log        the log, unless --no-log
+  NAME.log        the log, unless --no-log: a new one, until a node said that it has begun
   NAME.N.told     all that the node wrote in its N-th life, before the host acts on it
   NAME.port       the port on which this host listens, which is the system's; those of its peers it reads in PEER.port
   NAME.cut        names of peers whose links are held down, if it is there
   slots           up to which slot hosts propose; without it there is no end
 
 A frame is its length in four bytes, and so many bytes. Of two nodes the later by name connects. The first frame of each side is its name, each
-further one a message. A round n lasts n units, a ballot of counter n lasts n + 1 of them. --until-eof: it ends with its standard input.
+further one a message. A round n lasts n units, a ballot of counter n lasts n + 1 of them. --until-eof: it ends with
+its standard input.
 """
 import argparse
 import asyncio
@@ -24,6 +25,8 @@ import time
 FRAME = 65_536  # the longest message
 WAITS = 1 << 20  # so many bytes may wait for a slow peer
 WINDOW = 16  # so many slots are open at once
+IDLE = 10_000  # so many journal entries of a peer may change nothing between two applied slots
+HELD = 100  # for so many units its link is then held down, at first
 
 
 def put(key, value):
@@ -58,14 +61,28 @@ class Host:
         self.applied, self.proposed, self.moved = 0, 0, time.monotonic()
         self.requested, self.ahead = set(), None
         self.cut, self.slots = set(), None
+        self.idle, self.held = collections.Counter(), {}
 
     def path(self, end, name=None):
         return f"{self.asked.folder}/{name or self.name}.{end}"
 
     # ---- lines to the node, and what it writes
 
+    def words_of_log(self):
+        """A new log, until a life of the node was `ready`; and then one with at least as many events as it said."""
+        least = None
+        for life in range(1, self.asked.life + 1):
+            try:
+                with open(self.path(f"{life}.told"), "rb") as file:
+                    words = file.readline().split()
+            except FileNotFoundError:
+                continue
+            if len(words) == 2 and words[0] == b"ready":
+                least = words[1].decode()
+        return ["--log", self.path("log")] + (["--new"] if least is None else ["--at-least", least])
+
     async def start(self):
-        words = [self.asked.program, "node", "run", self.path("toml")] + ([] if self.asked.no_log else ["--log", self.path("log")])
+        words = [self.asked.program, "node", "run", self.path("toml")] + ([] if self.asked.no_log else self.words_of_log())
         self.told = os.open(self.path(f"{self.asked.life}.told"), os.O_WRONLY | os.O_CREAT | os.O_APPEND, 0o644)
         started = self.promise()
         self.node = await asyncio.create_subprocess_exec(*words, stdin=asyncio.subprocess.PIPE, stdout=asyncio.subprocess.PIPE, limit=1 << 20)
@@ -98,7 +115,9 @@ class Host:
         elif word == "stop":
             self.stop_timer(words[1], words[2])
         elif word == "applied":
-            self.hear_applied(int(words[1]), is_new=len(words) == 3)
+            self.hear_applied(int(words[1]), is_new=True)
+        elif word == "applied-count":
+            self.hear_applied(int(words[1]), is_new=False)
         elif word == "link" and self.count == 0:
             self.peers.append(words[1])
         elif word == "fate":
@@ -108,12 +127,16 @@ class Host:
                 give_up(f"{self.name}: {words} answers another line than {self.count}")
             self.count += 1
             self.answers.popleft().set_result(None)
+        elif word == "torn":
+            print(f"{self.name}: a torn end of its log was cut off: {words[1]} bytes behind {words[2]} events", file=sys.stderr, flush=True)
         elif word in ("bad", "fault"):
             give_up(f"{self.name}: {' '.join(words)}")
 
     def hear_applied(self, slot, is_new):
         if slot > self.applied:
             self.applied, self.moved = slot, time.monotonic()
+            self.idle.clear()
+            self.held.clear()
             if is_new:
                 self.propose()
                 self.ask_ahead()
@@ -127,14 +150,26 @@ class Host:
             self.ahead = None
         elif end[0] == "closed" and end[1] != "link" and peer in self.links:
             self.links[peer].close()
+        if end not in (["taken", "fresh"], ["taken", "decided"]):
+            self.hear_idle(peer)
+
+    def hear_idle(self, peer):
+        """The link of a peer that fills the journal with what changes nothing is held down, each time for twice as long, until a slot is applied."""
+        self.idle[peer] += 1
+        if self.idle[peer] % IDLE == 0:
+            self.held[peer] = time.monotonic() + self.asked.unit * HELD * 2 ** (self.idle[peer] // IDLE - 1)
+            if peer in self.links:
+                self.links[peer].close()
+
+    def is_down(self, peer):
+        return peer in self.cut or time.monotonic() < self.held.get(peer, 0)
 
     # ---- timers
 
     def start_timer(self, kind, slot, number):
         self.stop_timer(kind, slot)
         seconds = self.asked.unit * (number if kind == "round" else number + 1)
-        word = "round" if kind == "round" else "timer"
-        self.timers[kind, slot] = asyncio.get_running_loop().call_later(seconds, self.tell, f"{word} {slot}")
+        self.timers[kind, slot] = asyncio.get_running_loop().call_later(seconds, self.tell, f"{kind} {slot}")
 
     def stop_timer(self, kind, slot):
         timer = self.timers.pop((kind, slot), None)
@@ -153,7 +188,7 @@ class Host:
 
     async def carry(self, peer, reader, writer):
         """One connection with a peer, from its begin to its end."""
-        if peer in self.links or peer in self.cut:
+        if peer in self.links or self.is_down(peer):
             writer.close()
             return
         self.links[peer] = writer
@@ -194,7 +229,7 @@ class Host:
     async def connect(self, peer):
         while True:
             try:
-                if peer not in self.cut:
+                if not self.is_down(peer):
                     await self.connect_once(peer)
             except (asyncio.IncompleteReadError, asyncio.TimeoutError, OSError, ValueError):
                 pass
@@ -216,7 +251,7 @@ class Host:
         """A value for the next slot, once the last one is applied. It has random bytes: a host that forgot its node would propose another."""
         if self.proposed <= self.applied and self.is_wanted():
             self.proposed = self.applied + 1
-            self.tell(f"propose {self.proposed} {put(f'k{self.proposed}', f'{self.name} {os.urandom(4).hex()}')}")
+            self.tell(f"propose {self.proposed} {put(f'k{self.proposed % 100}', f'{self.name} {os.urandom(4).hex()}')}")
 
     def ask(self, peer, count):
         """The records of so many slots are asked for, each once of a peer."""

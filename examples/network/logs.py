@@ -40,6 +40,9 @@ BATCHES = [
 ]
 LONGEST = 262_144
 SECONDS = 60
+FIRST = 76  # bytes of a log's first line
+UNBEGUN = "fault 9 log isn't begun: --new begins it\n"
+CHAIN, NO_EVENT, OTHERWISE = "the chain doesn't fit", "the line says no event", "something else is sent"
 
 
 def sha256(data):
@@ -105,8 +108,17 @@ class Place:
         with open(f"{folder}/node.toml", "w", encoding="ascii") as file:
             file.write(config)
 
-    def words(self, with_log=True):
-        return [self.program, "node", "run", f"{self.folder}/node.toml"] + (["--log", f"{self.folder}/log"] if with_log else [])
+    def is_begun(self):
+        """Whether there is a log with a whole first line."""
+        path = f"{self.folder}/log"
+        return os.path.isfile(path) and os.path.getsize(path) >= FIRST
+
+    def words(self, with_log=True, more=None):
+        """The words of a process: with a log that is begun, or else with a new one, or with these words."""
+        words = [self.program, "node", "run", f"{self.folder}/node.toml"]
+        if not with_log:
+            return words
+        return words + ["--log", f"{self.folder}/log"] + (([] if self.is_begun() else ["--new"]) if more is None else more)
 
     def write(self, data):
         with open(f"{self.folder}/log", "wb") as file:
@@ -116,11 +128,15 @@ class Place:
         with open(f"{self.folder}/log", "rb") as file:
             return file.read()
 
-    def run(self, lines, with_log=True, **more):
+    def run(self, lines, with_log=True, words=None, **more):
         """The status and the output of a process that is given these lines, or these bytes."""
+        return self.run_told(lines, with_log, words, **more)[:2]
+
+    def run_told(self, lines, with_log=True, words=None, **more):
+        """The same, and what it told people."""
         data = lines if isinstance(lines, bytes) else "".join(f"{line}\n" for line in lines).encode()
-        done = subprocess.run(self.words(with_log), input=data, capture_output=True, timeout=SECONDS, check=False, **more)
-        return done.returncode, done.stdout.decode("ascii", "replace")
+        done = subprocess.run(self.words(with_log, words), input=data, capture_output=True, timeout=SECONDS, check=False, **more)
+        return done.returncode, done.stdout.decode("ascii", "replace"), done.stderr.decode("ascii", "replace").replace(f"{self.folder}/", "")
 
     def begin(self, with_log=True, **more):
         return subprocess.Popen(self.words(with_log), stdin=subprocess.PIPE, stdout=subprocess.PIPE, **more)
@@ -214,16 +230,21 @@ class Base:
 
     def expected(self, data):
         """What a log that holds this leads to: its fault, or how many events are played."""
-        if b"\n" not in data:
+        if data != self.header and self.header.startswith(data):
             return 0
         if not data.startswith(self.header):
             return "fault 9 log of another configuration\n"
         found, rest = entries(self.header, data)
         if b"\n+" in rest:
-            return f"fault 12 log line {2 * len(found) + 2}\n"
+            return f"fault 12 log line {2 * len(found) + 2}: {CHAIN}\n"
         # a mark isn't in a digest: what stands there says where a batch begins, and nothing else
         assert [it[1:] for it in found] == [it[1:] for it in self.entries[: len(found)]]
         return len(found)
+
+    def torn(self, data, count):
+        """The line of the torn end of this log, of which so many events are whole."""
+        size = len(spelled(self.header, self.entries[:count])) if data.startswith(self.header) else 0
+        return f"torn {len(data) - size} {count}\n" if len(data) > size else ""
 
     def try_log(self, place, data):
         """Whether a process with this log does as is expected; else what it did."""
@@ -236,8 +257,9 @@ class Base:
             return f"status {status}, {text!r}, expected {expected!r} and an untouched log"
         lines, closes = self.lines(expected)
         kept, _ = entries(self.header, place.read())
-        if status != 0 or not text.startswith(f"ready {expected + len(closes)}\n"):
-            return f"status {status}, {text!r}, expected ready {expected + len(closes)}"
+        first = f"ready {expected + len(closes)}\n{self.torn(data, expected)}lowest "
+        if status != 0 or not text.startswith(first):
+            return f"status {status}, {text!r}, expected {first!r}"
         if answers(text) != self.stands[expected]:
             return f"it stands at {answers(text)!r}, expected {self.stands[expected]!r}"
         if [it[1].decode() for it in kept] != lines + closes:
@@ -290,16 +312,16 @@ def replayed(base, place, counts):
     """Logs whose digests fit, of events that lead elsewhere or are none."""
     for at in range(len(base.entries)):
         mark, line, sent = base.entries[at]
-        for name, other in (
-            ("something else was sent", (mark, line, sha256(b"send bob 00\n"))),
-            ("a question", (mark, b"state", sha256(b""))),
-            ("no line", (mark, b"jump", sha256(b""))),
-            ("an empty line", (mark, b"", sha256(b""))),
+        for name, why, other in (
+            ("something else was sent", OTHERWISE, (mark, line, sha256(b"send bob 00\n"))),
+            ("a question", NO_EVENT, (mark, b"state", sha256(b""))),
+            ("no line", NO_EVENT, (mark, b"jump", sha256(b""))),
+            ("an empty line", NO_EVENT, (mark, b"", sha256(b""))),
         ):
             data = spelled(base.header, base.entries[:at] + [other] + base.entries[at + 1 :])
             place.write(data)
             seen = place.run([])
-            counts.same(seen, (1, f"fault 12 log line {2 * at + 2}\n"), f"{name} at entry {at}")
+            counts.same(seen, (1, f"fault 12 log line {2 * at + 2}: {why}\n"), f"{name} at entry {at}")
             counts.same(place.read(), data, f"{name} at entry {at}: the log")
 
 
@@ -341,10 +363,80 @@ def elsewhere(program, folder, counts):
     """Logs that can't be opened."""
     place = Place(program, f"{folder}/elsewhere")
     os.mkdir(f"{place.folder}/log")
-    counts.same(place.run([]), (3, "fault 14\n"), "a log that is a folder")
+    counts.same(place.run_told([]), (3, "fault 14\n", "log: it is a directory\n"), "a log that is a folder")
     os.rmdir(f"{place.folder}/log")
-    place.words = lambda with_log=True: [program, "node", "run", f"{place.folder}/node.toml", "--log", f"{place.folder}/nowhere/log"]
-    counts.same(place.run([]), (3, "fault 14\n"), "a log in a folder that isn't there")
+    missing = (3, "fault 14 log isn't there: --new makes one\n", "log: there is no such file\n")
+    counts.same(place.run_told([], words=[]), missing, "a log that isn't there")
+    counts.same(place.run_told([], words=["--at-least", "0"]), missing, "a log that isn't there, and may be without events")
+    counts.note(not os.path.exists(f"{place.folder}/log"), "a log that isn't there is made without --new")
+    place.words = lambda with_log=True, more=None: [program, "node", "run", f"{place.folder}/node.toml", "--log", f"{place.folder}/nowhere/log", "--new"]
+    counts.same(place.run_told([]), (3, "fault 14\n", "nowhere/log: there is no such file\n"), "a new log in a folder that isn't there")
+
+
+def wanted(base, place, counts):
+    """Which log is wanted: a new one, or one that is begun, with at least so many events."""
+    for size in (0, 10, FIRST - 1):
+        place.write(base.log[:size])
+        counts.same(place.run([], words=[]), (1, UNBEGUN), f"a log of {size} bytes, without --new")
+        counts.same(place.read(), base.log[:size], f"a log of {size} bytes, without --new: the log")
+        status, text, told = place.run_told([], words=["--new"])
+        counts.note(status == 0 and text.startswith("ready 0\n" + (f"torn {size} 0\n" if size else "lowest 1\n")), f"a log of {size} bytes, with --new: {text!r}")
+        counts.same(told, f"log: its end is torn: {size} bytes were cut off behind 0 events\n" if size else "", f"a log of {size} bytes, with --new: what is told")
+    for behind in (b"", base.log[FIRST : FIRST + 50]):
+        place.write(base.header + behind)
+        counts.same(place.run([], words=["--new"])[1].split("\n")[0], "ready 0", "a new log whose first line is whole")
+    count = len(base.entries)
+    for words, told in (
+        (["--new"], f"fault 9 log has {count} events, expected none\n"),
+        (["--at-least", str(count + 1)], f"fault 9 log has {count} events, expected at least {count + 1}\n"),
+    ):
+        place.write(base.log + b"torn")
+        counts.same(place.run([], words=words), (1, told), f"a log of {count} events, with {words}")
+        counts.same(place.read(), base.log + b"torn", f"a log of {count} events, with {words}: the log")
+    for words in ([], ["--at-least", "0"], ["--at-least", str(count)]):
+        place.write(base.log)
+        counts.same(place.run([], words=words)[0], 0, f"a log of {count} events, with {words}")
+    place.write(base.log[: len(base.log) * 2 // 5])
+    found = len(entries(base.header, place.read())[0])
+    counts.same(place.run([], words=["--at-least", str(count)]), (1, f"fault 9 log has {found} events, expected at least {count}\n"), "a log that was cut")
+
+
+def moved(base, place, counts):
+    """What becomes of a log while its process runs: what somebody else moves, cuts or writes ends the process before it says anything more."""
+    path, aside = f"{place.folder}/log", f"{place.folder}/aside"
+
+    def copied():
+        os.rename(path, aside)
+        with open(aside, "rb") as file:
+            place.write(file.read())
+
+    def appended():
+        with open(path, "ab") as file:
+            file.write(b"x")
+
+    for name, act in (
+        ("moved", lambda: os.rename(path, aside)),
+        ("removed", lambda: os.remove(path)),
+        ("moved, with a copy in its place", copied),
+        ("cut to nothing", lambda: os.truncate(path, 0)),
+        ("cut by a byte", lambda: os.truncate(path, os.path.getsize(path) - 1)),
+        ("made longer", appended),
+    ):
+        place.write(base.log)
+        process = place.begin(stderr=subprocess.PIPE)
+        answer(process, 0)
+        act()
+        process.stdin.write(b"state\n")
+        process.stdin.flush()
+        counts.note("lowest" in answer(process, 1), f"a log that was {name}: a question")
+        process.stdin.write(b"open bob\n")
+        process.stdin.flush()
+        counts.same(process.stdout.read().decode(), "fault 14 log was moved\n", f"a log that was {name}: an event")
+        told = process.stderr.read().decode()
+        process.stderr.close()
+        counts.same((end(process), told), (3, f"{path}: it was moved, cut or written by somebody else\n"), f"a log that was {name}")
+    if os.path.exists(aside):
+        os.remove(aside)
 
 
 def full_disk(base, place, counts):
@@ -467,6 +559,8 @@ LINES = [
     (b"round 1 1", f"3 {END}"),
     (b"timer", f"2 {SLOT}"),
     (b"timer 1.0", f"2 {SLOT}"),
+    (b"ballot", f"2 {SLOT}"),
+    (b"ballot 1 1", f"3 {END}"),
     (b"tick 1", f"2 {END}"),
     (b"ask", f"2 {PEER}"),
     (b"ask 1 bob", f"2 {PEER}"),
@@ -529,6 +623,8 @@ def main():
         replayed(base, place, counts)
         in_use(place, counts)
         elsewhere(program, folder, counts)
+        wanted(base, place, counts)
+        moved(base, place, counts)
         full_disk(base, place, counts)
         gone(base, place, counts)
         slow(place, counts)

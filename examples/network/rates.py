@@ -43,6 +43,7 @@ class Process:
 
     def __init__(self, program, log):
         words = [program, "node", "run", f"{HERE}/alice.toml"] + (["--log", log] if log else [])
+        words += ["--new"] if log and not os.path.exists(log) else []
         self.began = time.monotonic()
         self.process = subprocess.Popen(words, stdin=subprocess.PIPE, stdout=subprocess.PIPE)
         self.read_to(b"ok 0\n")

@@ -5,9 +5,13 @@ pub mod types {
 }
 
 pub mod quorum {
-    pub use scp_quorum::QuorumSet;
+    pub use scp_quorum::{QuorumSet, SaneSet};
+}
+
+pub mod envelope {
+    pub use scp_envelope::{Pledges, Statement, newer};
 }
 
 pub mod device {
-    pub use scp_device::ScriptIn;
+    pub use scp_device::{ReportOut, ScriptIn};
 }

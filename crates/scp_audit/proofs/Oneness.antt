@@ -51,18 +51,19 @@ said_in e = map (λ (m : Envelope). m.statement) e.messages.items
 abbrev verdicts_in : Judged → List Verdict
 verdicts_in l = map (λ (m : Message). m.verdict) l.judged.messages.items
 
-same_verdicts : VerdictsAreOne → (a b : Named) (e f : Entry) (l m : Judged) → a ≡ b → AreSameEntry e f → IsJudged a e l → IsJudged b f m → verdicts_in l ≡ verdicts_in m
+same_verdicts : VerdictsAreOne → (a b : Named) (e f : Entry) (l m : Judged) → a ≡ b → AreSameEntry e f → IsJudged a e l → IsJudged b f m → (verdicts_in l ≡ verdicts_in m) × (map heard_of l.judged.counting.items ≡ map heard_of m.judged.counting.items)
 same_verdicts one a b e f l m sets same h k =
     let here : AreVerdicts a f.ledger [] (said_in f) (verdicts_in m) (map heard_of m.judged.counting.items) = subst (λ (s : Named). AreVerdicts s f.ledger [] (said_in f) (verdicts_in m) (map heard_of m.judged.counting.items)) (sym sets) k.verdicts in
     let there : AreVerdicts a e.ledger [] (said_in f) (verdicts_in m) (map heard_of m.judged.counting.items) = subst (λ (n : ℕ). AreVerdicts a n [] (said_in f) (verdicts_in m) (map heard_of m.judged.counting.items)) (sym same.ledger) here in
     let moved : AreVerdicts a e.ledger [] (said_in e) (verdicts_in m) (map heard_of m.judged.counting.items) = subst (λ (es : List Envelope). AreVerdicts a e.ledger [] (map (λ (x : Envelope). x.statement) es) (verdicts_in m) (map heard_of m.judged.counting.items)) (sym same.messages) there in
-    (one a e.ledger [] (said_in e) (verdicts_in l) (verdicts_in m) (map heard_of l.judged.counting.items) (map heard_of m.judged.counting.items) h.verdicts moved).0
+    one a e.ledger [] (said_in e) (verdicts_in l) (verdicts_in m) (map heard_of l.judged.counting.items) (map heard_of m.judged.counting.items) h.verdicts moved
 
 same_comes : EntryIsItsValue → VerdictsAreOne → (a b c : Named) (read : Result (Values entry_kind) Reason) (x y : Record) → Comes a read x b → Comes a read y c → SameRecord x y × (b ≡ c)
 same_comes value one a b c read (Ledger l) (Ledger m) h k =
     let same : AreSameEntry h.0 k.0 = value h.0 k.0 (same_ok (entry_value h.0) (entry_value k.0) (sym h.1 ∙ k.1)) in
     let sets : b ≡ c = names_one a b c h.0.sets.items k.0.sets.items same.sets h.2 k.2 in
-    ((h.3.number ∙ same.ledger ∙ sym k.3.number, h.3.messages ∙ same.messages ∙ sym k.3.messages, same_verdicts one b c h.0 k.0 l m sets same h.3 k.3), sets)
+    let judged = same_verdicts one b c h.0 k.0 l m sets same h.3 k.3 in
+    ((h.3.number ∙ same.ledger ∙ sym k.3.number, h.3.messages ∙ same.messages ∙ sym k.3.messages, judged.0, judged.1), sets)
 same_comes value one a b c read (Ledger l) (Unread why) h k = absurd (ok_or_err (entry_value h.0) why (sym h.1 ∙ k.0))
 same_comes value one a b c read (Unread why) (Ledger m) h k = absurd (ok_or_err (entry_value k.0) why (sym k.1 ∙ h.0))
 same_comes value one a b c read (Unread why) (Unread other) h k = (same_err why other (sym h.0 ∙ k.0), fun_ext (λ x. h.1 x ∙ sym (k.1 x)))

@@ -1,3 +1,10 @@
+pub use Rattle.scp_archive.specs.scp_quorum
+pub use Rattle.scp_archive.specs.scp_envelope
+pub use Rattle.scp_judged.specs.scp_vote
+pub use Rattle.scp_judged.specs.scp_ledger
+pub use Rattle.scp_archive.specs.scp_device
+pub use Rattle.scp_archive
+pub use Rattle.scp_judged
 pub mod Judging
 pub mod Audit
 pub mod Laws

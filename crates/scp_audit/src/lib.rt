@@ -11,6 +11,7 @@
 #![tactic(auto)]
 
 mod archive;
+pub mod below;
 mod laws;
 mod ledger;
 

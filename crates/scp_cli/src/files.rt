@@ -1,8 +1,11 @@
 //! Files that are read, and what is reported of them to people and hosts.
 
-use scp_command::below::prompt::{Cause, Failure, Stream, Unopened, status, write_failure};
-use scp_live_process::below::device::{ScriptIn, read_script, write_text};
-use scp_live_process::below::types::{Fault, SCRIPT_LIMIT};
+use scp_command::below::prompt::{
+    Cause, Failure, LONG_LIMIT, Stream, Unopened, read_within, status, write_failure,
+};
+use scp_command::below::types::SCRIPT_LIMIT;
+use scp_live_head::below::device::{ScriptIn, read_script, write_text};
+use scp_live_head::below::types::Fault;
 use std::io::ErrorKind;
 use std::{fs, io};
 
@@ -35,6 +38,29 @@ fn text_of<R: ScriptIn + Cause>(
     Err(failed(rt, path, input.cause(), &failure))
 }
 
+/// The text of this input, which may be long, or the exit status of the failure that was reported.
+pub fn long_text_of<R: ScriptIn + Cause>(
+    rt: &HostRuntime,
+    path: &str,
+    input: &mut R,
+) -> Result<Vec<u8>, u8> {
+    let failure = match read_within(rt.alloc(), input) {
+        Ok(text) => return Ok(text),
+        Err(Fault::Device) => Failure::Unread,
+        Err(Fault::TooLong) => Failure::TooLong(LONG_LIMIT),
+        Err(_) => Failure::NoMemory,
+    };
+    Err(failed(rt, path, input.cause(), &failure))
+}
+
+/// The text of the file at this path, which may be long, or the exit status of the failure that was reported.
+pub fn long_text_of_file(rt: &HostRuntime, path: &str) -> Result<Vec<u8>, u8> {
+    match fs::open(rt, path) {
+        Ok(file) => long_text_of(rt, path, &mut Stream::new(file)),
+        Err(error) => long_text_of(rt, path, &mut Unopened::new(error.kind())),
+    }
+}
+
 /// The text of the file at this path, or the exit status of the failure that was reported.
 pub fn text_of_file(rt: &HostRuntime, path: &str) -> Result<Vec<u8>, u8> {
     match fs::open(rt, path) {
@@ -48,6 +74,13 @@ pub fn told(rt: &HostRuntime, text: &str) -> u8 {
     match write_text(&mut Stream::new(io::writer(rt)), text) {
         Ok(()) => 0,
         Err(_) => 3,
+    }
+}
+
+/// Reports to people why a stream with this name failed, if it did.
+pub fn tell_cause<R>(rt: &HostRuntime, name: &str, stream: &Stream<R>) {
+    if stream.has_failed() {
+        let _ = failed(rt, name, stream.cause(), &Failure::Unread);
     }
 }
 

@@ -3,7 +3,7 @@
 use crate::files::{failed, refused, text_of_file, told, unopened_file, wrong};
 use crate::origin::script_origin;
 use scp_command::below::prompt::{Failure, LONG_LIMIT, SimAsked, Stream, write_bytes};
-use scp_live_process::below::types::Fault;
+use scp_live_head::below::types::Fault;
 use scp_sim_findings::{
     BadSets, Far, Pace, Table, Told, ToldFault, add_stand, bad_sets, judging_of, plan_apart,
     sets_of, shorten, tell_run, write_row,

@@ -2,8 +2,9 @@
 
 pub mod prompt {
     pub use scp_prompt::{
-        Asked, Cause, Conversion, ConversionAsked, Failure, LONG_LIMIT, Mode, NodeAsked, NodeTask,
-        Shape, SimAsked, Source, Stop, Stream, Task, Unasked, Unopened, Wanted, Way, read_within,
-        read_words, status, write_bytes, write_failure, write_settled,
+        Asked, Cause, Conversion, ConversionAsked, Failure, HistoryAsked, LONG_LIMIT, LogAsked,
+        Mode, NodeAsked, NodeTask, QuorumsAsked, Shape, SimAsked, Source, Stop, Stream, Task,
+        Unasked, Unopened, Wanted, Way, read_within, read_words, status, write_bytes,
+        write_failure, write_settled,
     };
 }

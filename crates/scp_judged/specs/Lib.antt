@@ -1,3 +1,5 @@
+pub use Rattle.scp_ledger.specs.scp_vote
+pub use Rattle.scp_ledger
 pub mod Named
 pub mod Verdicts
 pub mod Certified

@@ -14,6 +14,7 @@
 #![tactic(auto)]
 
 mod backed;
+pub mod below;
 mod certificates;
 mod contradicts;
 mod insane;

@@ -8,7 +8,7 @@ use Rattle.scp_turn.specs.Kv.{Does, Goes, Noting, Watched}
 use Rattle.scp_turn.specs.Episode.{finds_full, is_full_reply}
 use Rattle.scp_turn.proofs.Causes.{clash, fell}
 
-does_on : (a b c : NodeView) (x y : List Exchange) → Does a x b → Does b y c → Does a (x ++ y) c
+pub does_on : (a b c : NodeView) (x y : List Exchange) → Does a x b → Does b y c → Does a (x ++ y) c
 does_on a b c [] y p q = subst (λ (v : NodeView). Does v y c) p q
 does_on a b c (e ∷ x) y p q = (p.0, p.1, does_on p.0 b c x y p.2 q)
 

@@ -5,9 +5,13 @@ pub mod Going
 pub mod Reporting
 pub mod Living
 pub mod Beginning
+pub mod Made
+pub mod Stating
 pub mod Replaying
 pub mod Steps
 pub mod Turns
 pub mod Agains
 pub mod Lives
+pub mod Journals
+pub mod Counting
 pub mod Words

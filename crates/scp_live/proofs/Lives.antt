@@ -46,7 +46,7 @@ on_does (Sent bytes) a v heard f = nothing_does a v heard f
 on_does JournalFull a v heard f = nothing_does a v heard f
 on_does NoMemory a v heard f = nothing_does a v heard f
 
-episode_does : (e : Event) (a v : NodeView) (heard : List Exchange) → AnEpisode e a heard v → Does a heard v
+pub episode_does : (e : Event) (a v : NodeView) (heard : List Exchange) → AnEpisode e a heard v → Does a heard v
 episode_does e a v heard h = subst (λ (l : List Exchange). Does a l v) (sym h.1.is) (h.1.stepped, h.1.step, on_does h.0 h.1.stepped v h.1.rest h.1.follows)
 
 episodes_does : (events : List Event) (a v : NodeView) (heard : List Exchange) → AreEpisodes events a heard v → Does a heard v

@@ -16,7 +16,9 @@ use Rattle.scp_again.specs.scp_types.specs.declared.names.Hash.{Hash}
 use Rattle.scp_turn.specs.Episode.{finds_full}
 use Rattle.scp_live_log.specs.Log.{EntryView}
 use Rattle.scp_live_log.specs.declared.kept.LogFault.{LogFault}
-use Rattle.scp_live_log.specs.declared.kept.LogFault.TheVariants.{Damaged, Failed}
+use Rattle.scp_live_log.specs.declared.kept.LogFault.TheVariants.{Another, Unbegun, Count, Damaged, Moved, Failed}
+use Rattle.scp_live_log.specs.declared.wanted.Unfit.{Unfit}
+use Rattle.scp_live_log.specs.declared.wanted.Unfit.TheVariants.{NoEvent, SendsOtherwise}
 use Rattle.scp_live_lines.specs.declared.asked.Asked.{Asked}
 use Rattle.scp_report.specs.scp_device.specs.declared.bad.WordFault.{WordFault}
 use Rattle.scp_report.specs.scp_device.specs.declared.bad.WordFault.TheVariants.{Bad}
@@ -26,7 +28,7 @@ use Rattle.scp_again.specs.scp_slot.specs.declared.timers.Timer.{Timer}
 use Rattle.scp_live_lines.specs.declared.asked.Asked.TheVariants.{Event, Again, State, Report, Stand, Applied, Nothing}
 use Rattle.scp_live_lines.specs.Says.{Says}
 use Rattle.scp_live.specs.Live.{LiveView, IsTold, told_of}
-use Rattle.scp_live.specs.Replays.{IsReplayed, AreReplayed, IsNoEvent, SaysNoEvent, IsUnfit, IsUnfitAt}
+use Rattle.scp_live.specs.Replays.{IsReplayed, AreReplayed, IsNoEvent, SaysNoEvent, IsUnfit, IsUnfitAt, IsPlayFault}
 use Rattle.scp_live.specs.inside.Replaying.{IsReplayFault}
 use Rattle.scp_turn.proofs.Causes.{clash}
 use Rattle.scp_live.proofs.Going.{Heard, heard_as, heard_then, watched_on, heard_running, found_later, found_behind, none_found}
@@ -56,7 +58,7 @@ replayed_on (entry ∷ entries) more a b c x y p q = record {
 -- what is told of an event is told behind any text
 pub told_apart : (event : Happening) (names : List (List ℕ)) (before after' : List Timer) (old new : NodeView) (heard : List Exchange) (text longer digest : List ℕ) → IsTold event names before after' old heard new text longer digest → (told : List ℕ) × IsTold event names before after' old heard new [] told digest × (longer ≡ text ++ told)
 told_apart event names before after' old new heard text longer digest t =
-    (told_of names before after' t.reply old heard new, record { reply = t.reply; episode = t.episode; lines = refl; digest_is = t.digest_is }, t.lines)
+    (told_of event names before after' t.reply old heard new, record { reply = t.reply; episode = t.episode; lines = refl; digest_is = t.digest_is }, t.lines)
 
 -- a full journal is reported exactly if one was found: of an entry, and of an event
 abbrev pub EntryFull : Result (Unit {0}) LogFault → List Exchange → Type 0
@@ -127,7 +129,7 @@ says_nothing bad refusal names same line at is nothing =
 
 -- what comes of an entry: it is played, it is unfit, or the journal was full
 abbrev pub Comes : Result (Unit {0}) LogFault → ℕ → EntryView → LiveView → List Exchange → LiveView → Type 0
-Comes r place entry u heard v = OnOk r (IsReplayed entry u heard v) × (r ≡ Err (Damaged place) → IsUnfit entry u heard v) × EntryFull r heard
+Comes r place entry u heard v = OnOk r (IsReplayed entry u heard v) × ((why : Unfit) → r ≡ Err (Damaged place why) → IsUnfit why entry u heard v) × EntryFull r heard
 
 -- where an event was played, no full journal was found
 none_in : (hash : Hash) (heard : List Exchange) → EventFull (Ok hash) heard → finds_full heard ≡ true → ⊥
@@ -137,18 +139,18 @@ failed_same : (f g : Fault) → IsErrOf {T = Unit {0}} (Err (Failed f)) (Failed 
 failed_same f g e = cc
 
 -- why no event was read
-pub event_fault : (f : LogFault) (place : ℕ) → (f ≡ Failed NoMemory) ⊎ (f ≡ Damaged place) → IsReplayFault place f
+pub event_fault : (f : LogFault) (place : ℕ) → (f ≡ Failed NoMemory) ⊎ (f ≡ Damaged place NoEvent) → IsReplayFault place f
 event_fault f place only =
     ⊎_elim
     (λ (e : f ≡ Failed NoMemory). subst (λ (g : LogFault). IsReplayFault place g) (sym e) (inl refl))
-    (λ (e : f ≡ Damaged place). subst (λ (g : LogFault). IsReplayFault place g) (sym e) refl)
+    (λ (e : f ≡ Damaged place NoEvent). subst (λ (g : LogFault). IsReplayFault place g) (sym e) refl)
     only
 
-pub event_isnt_full : (f : LogFault) (place : ℕ) → (f ≡ Failed NoMemory) ⊎ (f ≡ Damaged place) → f ≡ Failed JournalFull → ⊥
+pub event_isnt_full : (f : LogFault) (place : ℕ) → (f ≡ Failed NoMemory) ⊎ (f ≡ Damaged place NoEvent) → f ≡ Failed JournalFull → ⊥
 event_isnt_full f place only full =
     ⊎_elim
     (λ (e : f ≡ Failed NoMemory). let no : Failed NoMemory ≡ Failed JournalFull = sym e ∙ full in absurd cc)
-    (λ (e : f ≡ Damaged place). let no : Damaged place ≡ Failed JournalFull = sym e ∙ full in absurd cc)
+    (λ (e : f ≡ Damaged place NoEvent). let no : Damaged place NoEvent ≡ Failed JournalFull = sym e ∙ full in absurd cc)
     only
 
 -- why an event wasn't played at a node that ran
@@ -163,10 +165,21 @@ act_fault f a runs failed only =
     more)
     only
 
-pub no_event_said : (f : LogFault) (place : ℕ) (entry : EntryView) (u : LiveView) → (f ≡ Damaged place → SaysNoEvent u.names entry.line) → (f ≡ Failed JournalFull → ⊥) → Comes (Err f) place entry u [] u
-no_event_said f place entry u unsaid never = (
+-- an entry from which no event was read says none
+unsaid_why : (f : LogFault) (place : ℕ) (why : Unfit) → f ≡ Damaged place why → (f ≡ Failed NoMemory) ⊎ (f ≡ Damaged place NoEvent) → why ≡ NoEvent
+unsaid_why f place why is only =
+    ⊎_elim
+    (λ (e : f ≡ Failed NoMemory). let no : Damaged place why ≡ Failed NoMemory = sym is ∙ e in absurd cc)
+    (λ (e : f ≡ Damaged place NoEvent). let same : Damaged place why ≡ Damaged place NoEvent = sym is ∙ e in cc)
+    only
+
+pub no_event_said : (f : LogFault) (place : ℕ) (entry : EntryView) (u : LiveView) → (f ≡ Damaged place NoEvent → SaysNoEvent u.names entry.line) → (f ≡ Failed NoMemory) ⊎ (f ≡ Damaged place NoEvent) → (f ≡ Failed JournalFull → ⊥) → Comes (Err f) place entry u [] u
+no_event_said f place entry u unsaid only never = (
   tt,
-  λ is. inl (unsaid (let same : f ≡ Damaged place = cc in same)),
+  λ why is.
+      let same : f ≡ Damaged place why = cc in
+      let here : why ≡ NoEvent = unsaid_why f place why same only in
+      subst (λ (w : Unfit). IsUnfit w entry u [] u) (sym here) (unsaid (same ∙ ap (λ (w : Unfit). Damaged place w) here)),
   (λ full. absurd (never (let same : f ≡ Failed JournalFull = cc in same)), λ found. absurd (none_found found)),
 )
 
@@ -176,7 +189,7 @@ not_played f place entry u v E P g = record {
   is = (
     (
       tt,
-      λ is. absurd cc,
+      λ why is. absurd cc,
       (
         λ full. g.is.2.0 (ap (λ (x : Fault). Err x) (failed_same f JournalFull full)),
         λ found. ap (λ (x : Fault). Err (Failed x)) (same_fault f JournalFull (g.is.2.1 found)),
@@ -191,14 +204,14 @@ not_played f place entry u v E P g = record {
 pub is_played : (place : ℕ) (entry : EntryView) (u v : LiveView) (hash : Hash) (E : NodeView → List Exchange → NodeView → Type 0) → Heard u.node v.node (λ heard. IsReplayed entry u heard v × E u.node heard v.node × EventFull (Ok hash) heard) → Heard u.node v.node (λ heard. Comes (Ok tt) place entry u heard v × E u.node heard v.node)
 is_played place entry u v hash E g = record {
   heard = g.heard;
-  is = ((g.is.0, λ is. absurd cc, (λ full. absurd cc, λ found. absurd (none_in hash g.heard g.is.2 found))), g.is.1);
+  is = ((g.is.0, λ why is. absurd cc, (λ full. absurd cc, λ found. absurd (none_in hash g.heard g.is.2 found))), g.is.1);
   does = g.does;
   theorem = g.theorem;
 }
 
 -- an event that was played, of which something else was sent
 pub plays_otherwise : (place : ℕ) (entry : EntryView) (event : Happening) (u v : LiveView) (text longer digest other : List ℕ) (b : Bool) (hash : Hash) (E : NodeView → List Exchange → NodeView → Type 0) → b ≡ false → b ≡ pointwise nat_eq digest other → other ≡ entry.sent → Says u.names entry.line (Event event)
-    → Goes u.node v.node (λ a heard n. IsTold event u.names u.timers v.timers a heard n text longer digest × E a heard n × EventFull (Ok hash) heard) → Heard u.node v.node (λ heard. Comes (Err (Damaged place)) place entry u heard v × E u.node heard v.node)
+    → Goes u.node v.node (λ a heard n. IsTold event u.names u.timers v.timers a heard n text longer digest × E a heard n × EventFull (Ok hash) heard) → Heard u.node v.node (λ heard. Comes (Err (Damaged place SendsOtherwise)) place entry u heard v × E u.node heard v.node)
 plays_otherwise place entry event u v text longer digest other b hash E differs eq is says g =
     let t = told_apart event u.names u.timers v.timers u.node v.node g.heard text longer digest g.is.0 in
     let differ : digest ≢ entry.sent = λ same. absurd (let e : true ≡ false = sym ((bytes_decides digest other).1 (same ∙ sym is)) ∙ sym eq ∙ differs in cc) in
@@ -207,7 +220,9 @@ plays_otherwise place entry event u v text longer digest other b hash E differs 
       is = (
         (
           tt,
-          λ e. inr (record { event = event; says = says; told = t.0; digest = digest; tells = t.1; other = differ }),
+          λ why e.
+              let here : why ≡ SendsOtherwise = cc in
+              subst (λ (w : Unfit). IsUnfit w entry u g.heard v) (sym here) (record { event = event; says = says; told = t.0; digest = digest; tells = t.1; other = differ }),
           (λ full. absurd cc, λ found. absurd (none_in hash g.heard g.is.2 found)),
         ),
         g.is.1,
@@ -217,25 +232,25 @@ plays_otherwise place entry event u v text longer digest other b hash E differs 
     }
 
 -- entries were played, and then one failed
-unfit_at : (f : LogFault) (entries : List EntryView) (place n : ℕ) (entry : EntryView) (u v w : LiveView) (x y : List Exchange) → place < length entries → entry ≡ get_or entries place entry → IsReplayFault place f → f ≡ Damaged n → AreReplayed (take place entries) u x v → (f ≡ Damaged place → IsUnfit entry v y w) → IsUnfitAt entries n u (x ++ y) w
-unfit_at f entries place n entry u v w x y lt is fault same played unfit =
+unfit_at : (f : LogFault) (entries : List EntryView) (place n : ℕ) (why : Unfit) (entry : EntryView) (u v w : LiveView) (x y : List Exchange) → place < length entries → entry ≡ get_or entries place entry → IsReplayFault place f → f ≡ Damaged n why → AreReplayed (take place entries) u x v → (f ≡ Damaged place why → IsUnfit why entry v y w) → IsUnfitAt entries n why u (x ++ y) w
+unfit_at f entries place n why entry u v w x y lt is fault same played unfit =
     let here : n ≡ place = subst (λ (g : LogFault). IsReplayFault place g) same fault in
-    subst (λ (m : ℕ). IsUnfitAt entries m u (x ++ y) w) (sym here) (record {
+    subst (λ (m : ℕ). IsUnfitAt entries m why u (x ++ y) w) (sym here) (record {
       entry = entry;
       there = slice_get_read entries (length entries) place entry refl lt is;
-      played = record { mid = v; heard_first = x; heard_next = y; heard_is = refl; first = played; next = unfit (same ∙ ap (λ (m : ℕ). Damaged m) here) };
+      played = record { mid = v; heard_first = x; heard_next = y; heard_is = refl; first = played; next = unfit (same ∙ ap (λ (m : ℕ). Damaged m why) here) };
     })
 
 pub refused_at : {W : Type 0} (Note : Noting W) (f : LogFault) (entries : List EntryView) (place : ℕ) (entry : EntryView) (u v w : LiveView) (first mid last : W) → place < length entries → entry ≡ get_or entries place entry → IsReplayFault place f → v.node.failed ≡ false
     → Heard u.node v.node (λ heard. AreReplayed (take place entries) u heard v × Watched Note 1 first u.node heard v.node mid) → Heard v.node w.node (λ heard. Comes (Err f) place entry v heard w × Watched Note 1 mid v.node heard w.node last)
-    → Heard u.node w.node (λ heard. (Unit {0} × ((n : ℕ) → IsErrOf {T = Unit {0}} (Err f) (Damaged n) → IsUnfitAt entries n u heard w) × EntryFull (Err f) heard) × Watched Note 1 first u.node heard w.node last)
+    → Heard u.node w.node (λ heard. (Unit {0} × ((n : ℕ) (why : Unfit) → IsErrOf {T = Unit {0}} (Err f) (Damaged n why) → IsUnfitAt entries n why u heard w) × EntryFull (Err f) heard) × Watched Note 1 first u.node heard w.node last)
 refused_at {W} Note f entries place entry u v w first mid last lt is fault runs p q =
     heard_then u.node v.node w.node (λ heard. (AreReplayed (take place entries) u heard v × Watched Note 1 first u.node heard v.node mid) × (finds_full heard ≡ true → ⊥)) (λ heard. Comes (Err f) place entry v heard w × Watched Note 1 mid v.node heard w.node last)
-    (λ heard. (Unit {0} × ((n : ℕ) → IsErrOf {T = Unit {0}} (Err f) (Damaged n) → IsUnfitAt entries n u heard w) × EntryFull (Err f) heard) × Watched Note 1 first u.node heard w.node last)
+    (λ heard. (Unit {0} × ((n : ℕ) (why : Unfit) → IsErrOf {T = Unit {0}} (Err f) (Damaged n why) → IsUnfitAt entries n why u heard w) × EntryFull (Err f) heard) × Watched Note 1 first u.node heard w.node last)
     (λ x y a b. (
       (
         tt,
-        λ n e. unfit_at f entries place n entry u v w x y lt is fault (let same : f ≡ Damaged n = cc in same) a.0.0 (λ same. b.0.1 (ap (λ (g : LogFault). Err g) same)),
+        λ n why e. unfit_at f entries place n why entry u v w x y lt is fault (let same : f ≡ Damaged n why = cc in same) a.0.0 (λ same. b.0.1 why (ap (λ (g : LogFault). Err g) same)),
         (λ full. found_later x y (b.0.2.0 full), λ found. b.0.2.1 (found_behind x y a.1 found)),
       ),
       watched_on Note 1 first mid last u.node v.node w.node x y a.0.1 b.1,
@@ -245,16 +260,25 @@ refused_at {W} Note f entries place entry u v w first mid last lt is fault runs 
 -- all of them were played
 pub all_replayed : {W : Type 0} (Note : Noting W) (entries : List EntryView) (place : ℕ) (u v : LiveView) (first last : W) → length entries ≤ place → v.node.failed ≡ false
     → Heard u.node v.node (λ heard. AreReplayed (take place entries) u heard v × Watched Note 1 first u.node heard v.node last)
-    → Heard u.node v.node (λ heard. (AreReplayed entries u heard v × ((n : ℕ) → IsErrOf {T = Unit {0}} (Ok tt) (Damaged n) → IsUnfitAt entries n u heard v) × EntryFull (Ok tt) heard) × Watched Note 1 first u.node heard v.node last)
+    → Heard u.node v.node (λ heard. (AreReplayed entries u heard v × ((n : ℕ) (why : Unfit) → IsErrOf {T = Unit {0}} (Ok tt) (Damaged n why) → IsUnfitAt entries n why u heard v) × EntryFull (Ok tt) heard) × Watched Note 1 first u.node heard v.node last)
 all_replayed {W} Note entries place u v first last le runs p =
     heard_as u.node v.node (λ heard. (AreReplayed (take place entries) u heard v × Watched Note 1 first u.node heard v.node last) × (finds_full heard ≡ true → ⊥))
-    (λ heard. (AreReplayed entries u heard v × ((n : ℕ) → IsErrOf {T = Unit {0}} (Ok tt) (Damaged n) → IsUnfitAt entries n u heard v) × EntryFull (Ok tt) heard) × Watched Note 1 first u.node heard v.node last)
+    (λ heard. (AreReplayed entries u heard v × ((n : ℕ) (why : Unfit) → IsErrOf {T = Unit {0}} (Ok tt) (Damaged n why) → IsUnfitAt entries n why u heard v) × EntryFull (Ok tt) heard) × Watched Note 1 first u.node heard v.node last)
     (λ heard a. (
       (
         subst (λ (l : List EntryView). AreReplayed l u heard v) (take_all place entries le) a.0.0,
-        λ n is. absurd cc,
+        λ n why is. absurd cc,
         (λ full. absurd cc, λ found. absurd (a.1 found)),
       ),
       a.0.1,
     ))
     (heard_running u.node v.node (λ heard. AreReplayed (take place entries) u heard v × Watched Note 1 first u.node heard v.node last) runs p)
+
+-- an entry that isn't played refuses the replay
+pub play_fault : (f : LogFault) (place : ℕ) → IsReplayFault place f → IsPlayFault f
+play_fault Another place fault = absurd fault
+play_fault Unbegun place fault = absurd fault
+play_fault (Count n wanted) place fault = absurd fault
+play_fault (Damaged at why) place fault = tt
+play_fault Moved place fault = absurd fault
+play_fault (Failed f) place fault = fault

@@ -1,5 +1,5 @@
 -- What the words of a line say is one thing: the first tells which form it has, and the others fill it.
-use Rattle.std.proofs.Common.{◌≡◌, ℕ, Bool, true, false, List, [], ◌∷◌, Some, refl, sym, ◌∙◌, ap, subst}
+use Rattle.std.proofs.Common.{◌≡◌, inl, inr, ℕ, Bool, true, false, List, [], ◌∷◌, Some, refl, sym, ◌∙◌, ap, subst}
 use Rattle.std.specs.Prelude.{codes}
 use Rattle.std.specs.Fmt.{decimal}
 use Rattle.std.proofs.lemmas.Fmt.{decimal_injective}
@@ -72,6 +72,7 @@ IsOf names verbs.Recv words a = OfLinkAndBytes names (codes "recv") (λ l bytes.
 IsOf names verbs.Propose words a = OfSlotAndBytes (codes "propose") (λ slot value. Event (Local (Propose slot value))) words a
 IsOf names verbs.Round words a = OfSlot (codes "round") (λ slot. Event (Local (Round slot))) words a
 IsOf names verbs.Timer words a = OfSlot (codes "timer") (λ slot. Event (Local (Timer slot))) words a
+IsOf names verbs.Ballot words a = OfSlot (codes "ballot") (λ slot. Event (Local (Timer slot))) words a
 IsOf names verbs.Tick words a = OfNothing (codes "tick") (Event (Local Tick)) words a
 IsOf names verbs.Ask words a = OfLinkAndSlot names (codes "ask") (λ l slot. Event (Local (Ask l slot))) words a
 IsOf names verbs.Again words a = OfLink names (codes "again") (λ l. Again l) words a
@@ -100,7 +101,10 @@ command_formed : (names words : List (List ℕ)) (c : Command) → SaysCommand n
 command_formed names words Tick h = record { verb = verbs.Tick; first = told words _ (codes "tick") verbs.Tick h refl; form = record { read = h; is = refl } }
 command_formed names words (Propose slot value) h = record { verb = verbs.Propose; first = told words _ (codes "propose") verbs.Propose h.3 refl; form = record { slot = slot; bytes = value; digits = h.0; small = h.1; spelled = h.2; read = h.3; is = refl } }
 command_formed names words (Round slot) h = record { verb = verbs.Round; first = told words _ (codes "round") verbs.Round h.1 refl; form = record { slot = slot; small = h.0; read = h.1; is = refl } }
-command_formed names words (Timer slot) h = record { verb = verbs.Timer; first = told words _ (codes "timer") verbs.Timer h.1 refl; form = record { slot = slot; small = h.0; read = h.1; is = refl } }
+command_formed names words (Timer slot) h = elim h.1 [
+  | inl one ↦ record { verb = verbs.Timer; first = told words _ (codes "timer") verbs.Timer one refl; form = record { slot = slot; small = h.0; read = one; is = refl } }
+  | inr other ↦ record { verb = verbs.Ballot; first = told words _ (codes "ballot") verbs.Ballot other refl; form = record { slot = slot; small = h.0; read = other; is = refl } }
+]
 command_formed names words (Ask link slot) h = record { verb = verbs.Ask; first = told words _ (codes "ask") verbs.Ask h.2 refl; form = record { link = link; slot = slot; has = h.0; small = h.1; read = h.2; is = refl } }
 
 event_formed : (names words : List (List ℕ)) (x : Happening) → SaysEvent names words x → Formed names words (Event x)
@@ -181,6 +185,7 @@ one_of names verbs.Recv words a b apart h k = one_link_and_bytes names (codes "r
 one_of names verbs.Propose words a b apart h k = one_slot_and_bytes (codes "propose") (λ slot value. Event (Local (Propose slot value))) words a b h k
 one_of names verbs.Round words a b apart h k = one_slot (codes "round") (λ slot. Event (Local (Round slot))) words a b h k
 one_of names verbs.Timer words a b apart h k = one_slot (codes "timer") (λ slot. Event (Local (Timer slot))) words a b h k
+one_of names verbs.Ballot words a b apart h k = one_slot (codes "ballot") (λ slot. Event (Local (Timer slot))) words a b h k
 one_of names verbs.Tick words a b apart h k = h.is ∙ sym k.is
 one_of names verbs.Ask words a b apart h k = one_link_and_slot names (codes "ask") (λ l slot. Event (Local (Ask l slot))) words a b apart h k
 one_of names verbs.Again words a b apart h k = one_link names (codes "again") (λ l. Again l) words a b apart h k

@@ -4,8 +4,9 @@ use Rattle.hex.specs.Hex.{encode_lower}
 use Rattle.sha2.specs.Sha256.{sha256}
 use Rattle.toml.specs.Data.{Members}
 use Rattle.toml.specs.Parse.{parse_document}
+use Rattle.scp_again.specs.scp_driver.specs.Kv.{kv_says}
 use Rattle.scp_again.specs.scp_core.specs.declared.config.Config.{Config}
-use Rattle.scp_again.specs.scp_core.specs.Kv.{LedgerTheorem}
+use Rattle.scp_again.specs.scp_core.specs.Theorem.{LedgerTheoremFrom}
 use Rattle.scp_live_config.specs.Config.{IsConfigOf}
 use Rattle.scp_live_config.specs.Form.{form}
 use Rattle.scp_live_config.specs.Names.{Identity}
@@ -39,9 +40,13 @@ config_in settings = record {
   capacities = settings.capacities;
 }
 
--- A node with these settings that has received no event yet.
-pub record IsNew (settings : Settings) (v : LiveView) : Type 0 where
+-- A node with these settings, which begins with this slot and with the state that these bytes say, and has received no event yet.
+pub record IsNewFrom (settings : Settings) (first : ℕ) (base : List ℕ) (v : LiveView) : Type 0 where
   pub config : v.node.config ≡ config_in settings
   pub names : v.names ≡ map (λ (peer : Identity). peer.name) settings.peers.items
   pub nodes : v.nodes ≡ settings.names.items
-  pub theorem : LedgerTheorem [] v.node
+  pub theorem : LedgerTheoremFrom kv_says first base [] v.node
+
+-- The same of the node as it is made: from slot 1, and from the empty state.
+abbrev pub IsNew : Settings → LiveView → Type 0
+IsNew settings v = IsNewFrom settings 1 [] v

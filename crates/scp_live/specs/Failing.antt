@@ -6,7 +6,11 @@ use Rattle.scp_again.specs.scp_types.specs.Fault.{number_of}
 use Rattle.scp_again.specs.scp_types.specs.declared.fault.Fault.TheVariants as fault
 use Rattle.scp_report.specs.scp_device.specs.Device.{Gains, GainsPart, Fails}
 use Rattle.scp_live_log.specs.declared.kept.LogFault.{LogFault}
-use Rattle.scp_live_log.specs.declared.kept.LogFault.TheVariants.{Another, Damaged, Failed}
+use Rattle.scp_live_log.specs.declared.kept.LogFault.TheVariants.{Another, Unbegun, Count, Damaged, Moved, Failed}
+use Rattle.scp_live_log.specs.declared.wanted.Unfit.{Unfit}
+use Rattle.scp_live_log.specs.declared.wanted.Unfit.TheVariants.{Chain, NoEvent, SendsOtherwise}
+use Rattle.scp_live_log.specs.declared.wanted.Wanted.{Wanted}
+use Rattle.scp_live_log.specs.declared.wanted.Wanted.TheVariants.{AtLeast, New}
 use Rattle.scp_live_config.specs.Texts.{fault_text}
 use Rattle.scp_live_config.specs.Wrong.{IsFaultOf}
 use Rattle.scp_live_config.specs.declared.fault.ConfigFault.{ConfigFault}
@@ -17,16 +21,33 @@ use Rattle.scp_live_config.specs.declared.fault.ConfigFault.TheVariants as confi
 abbrev pub log_line : ℕ → ℕ
 log_line place = min (place * 2 + 2) (2 ^ 64 - 1)
 
+-- Why an entry doesn't fit, as the end of a line.
+abbrev pub unfit_end : Unfit → List ℕ
+unfit_end Chain = codes ": the chain doesn't fit\n"
+unfit_end NoEvent = codes ": the line says no event\n"
+unfit_end SendsOtherwise = codes ": something else is sent\n"
+
+-- The line that reports a log with so many entries, where another count is wanted.
+abbrev pub count_line : ℕ → Wanted → List ℕ
+count_line n (AtLeast least) = (codes "fault 9 log has " ++ decimal n ++ codes " events, expected at least ") ++ (codes "" ++ decimal least ++ codes "\n")
+count_line n New = codes "fault 9 log has " ++ decimal n ++ codes " events, expected none\n"
+
 -- The line that reports a fault.
 abbrev pub fault_line : LogFault → List ℕ
 fault_line Another = codes "fault 9 log of another configuration\n"
-fault_line (Damaged place) = codes "fault 12 log line " ++ decimal (log_line place) ++ codes "\n"
+fault_line Unbegun = codes "fault 9 log isn't begun: --new begins it\n"
+fault_line (Count n wanted) = count_line n wanted
+fault_line (Damaged place why) = codes "fault 12 log line " ++ decimal (log_line place) ++ unfit_end why
+fault_line Moved = codes "fault 14 log was moved\n"
 fault_line (Failed f) = codes "fault " ++ decimal (number_of f) ++ codes "\n"
 
 -- The status that goes with it: 1 if the log doesn't fit, 3 if a call failed.
 abbrev pub fault_status : LogFault → ℕ
 fault_status Another = 1
-fault_status (Damaged place) = 1
+fault_status Unbegun = 1
+fault_status (Count n wanted) = 1
+fault_status (Damaged place why) = 1
+fault_status Moved = 3
 fault_status (Failed f) = 3
 
 -- The line that reports the fault of a configuration.

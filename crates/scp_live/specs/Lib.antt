@@ -3,6 +3,8 @@ pub use Rattle.scp_live_config
 pub use Rattle.scp_live_lines
 pub mod Live
 pub mod Again
+pub mod Idle
+pub mod Full
 pub mod Questions
 pub mod Living
 pub mod Beginning

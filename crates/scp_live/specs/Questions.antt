@@ -8,27 +8,33 @@ use Rattle.scp_live_lines.specs.Names.{name_at}
 use Rattle.scp_live_lines.specs.Fates.{fate_line}
 use Rattle.scp_live_lines.specs.Decisions.{applied_line}
 use Rattle.scp_live_lines.specs.Timers.{running}
-use Rattle.scp_live_lines.specs.State.{lowest_line, applied_count_line, journal_line, warning_lines, link_line, key_line}
+use Rattle.scp_live_lines.specs.State.{lowest_line, applied_count_line, journal_line, warning_lines, link_line, idle_line, key_line}
 use Rattle.scp_report.specs.Report.{ReportView}
 use Rattle.scp_report.specs.Node.{report_of as record_of}
 use Rattle.scp_live.specs.Live.{LiveView}
+use Rattle.scp_live.specs.Idle.{idle_at}
 
 -- The line of each link, in order: whether the node accepts what its peer sends, and how many times it was opened.
 abbrev pub link_lines : LiveView → ℕ → List ℕ
 link_lines v zero = []
 link_lines v (suc l) = link_lines v l ++ link_line (name_at v.names l) (accepts_at v.node l) (lives_at v.node l)
 
--- The state of a node: the lowest undecided slot, the number of applied slots, the length of the journal, the links, and the timers that
--- run.
+-- The line of each peer, in order: how many entries of the journal it sent that changed nothing.
+abbrev pub idle_lines : LiveView → ℕ → List ℕ
+idle_lines v zero = []
+idle_lines v (suc l) = idle_lines v l ++ idle_line (name_at v.names l) (idle_at v.node l)
+
+-- The state of a node: the lowest undecided slot, the number of applied slots, the length of the journal, the links, how much each peer sent
+-- that changed nothing, and the timers that run.
 abbrev pub state_of : LiveView → List ℕ
 state_of v =
     lowest_line v.node.ledger.lowest ++ applied_count_line (length v.node.applier.applied)
     ++ journal_line (length v.node.ledger.journal) ++ warning_lines (length v.node.ledger.journal)
-    ++ link_lines v (links_of v.node) ++ running v.timers
+    ++ link_lines v (links_of v.node) ++ idle_lines v (links_of v.node) ++ running v.timers
 
--- The line of each applied slot from this one on.
+-- The line of each slot from this one on that the node applied.
 abbrev pub applied_from : NodeView → ℕ → List ℕ
-applied_from v slot = flat_map applied_line (drop (slot - 1) v.applier.applied)
+applied_from v slot = flat_map applied_line (drop (slot - v.applier.first) v.applier.applied)
 
 -- The lines that the record of a node has in a report: what became of each message that came, in the order of the journal; each applied slot;
 -- and each key of the state with its value. These peers have these names, in order.

@@ -2,6 +2,11 @@
 use Rattle.std.specs.Prelude.{ℕ, ◌≡◌, ◌≢◌, ◌⊎◌, List, [], ◌∷◌, ◌++◌, Some, take, slice_get}
 use Rattle.scp_again.specs.scp_core.specs.declared.event.Event.{Event as Happening}
 use Rattle.scp_again.specs.scp_core.specs.History.{Exchange}
+use Rattle.scp_again.specs.scp_types.specs.declared.fault.Fault.TheVariants.{NoMemory, JournalFull}
+use Rattle.scp_live_log.specs.declared.kept.LogFault.{LogFault}
+use Rattle.scp_live_log.specs.declared.kept.LogFault.TheVariants.{Damaged, Failed}
+use Rattle.scp_live_log.specs.declared.wanted.Unfit.{Unfit}
+use Rattle.scp_live_log.specs.declared.wanted.Unfit.TheVariants as unfit
 use Rattle.scp_live_log.specs.Log.{EntryView}
 use Rattle.scp_live_lines.specs.declared.asked.Asked.{Asked}
 use Rattle.scp_live_lines.specs.declared.asked.Asked.TheVariants.{Event}
@@ -49,12 +54,20 @@ pub record IsOtherwise (entry : EntryView) (old : LiveView) (heard : List Exchan
   pub tells : IsTold event old.names old.timers new.timers old.node heard new.node [] told digest
   pub other : digest ≢ entry.sent
 
--- The entry can't be played again: its line says no event, or something else is sent for it now.
-abbrev pub IsUnfit : EntryView → LiveView → List Exchange → LiveView → Type 0
-IsUnfit entry old heard new = SaysNoEvent old.names entry.line ⊎ IsOtherwise entry old heard new
+-- The entry can't be played again for this reason: its line says no event, or something else is sent for it now.
+abbrev pub IsUnfit : Unfit → EntryView → LiveView → List Exchange → LiveView → Type 0
+IsUnfit unfit.Chain entry old heard new = ⊥
+IsUnfit unfit.NoEvent entry old heard new = SaysNoEvent old.names entry.line
+IsUnfit unfit.SendsOtherwise entry old heard new = IsOtherwise entry old heard new
 
--- The entries before this index were played one after the other, and the one at the index can't be played.
-pub record IsUnfitAt (entries : List EntryView) (place : ℕ) (old : LiveView) (heard : List Exchange) (new : LiveView) : Type 0 where
+-- The entries before this index were played one after the other, and the one at the index can't be played for this reason.
+pub record IsUnfitAt (entries : List EntryView) (place : ℕ) (why : Unfit) (old : LiveView) (heard : List Exchange) (new : LiveView) : Type 0 where
   pub entry : EntryView
   pub there : slice_get entries place ≡ Some entry
-  pub played : Then (AreReplayed (take place entries)) (IsUnfit entry) old heard new
+  pub played : Then (AreReplayed (take place entries)) (IsUnfit why entry) old heard new
+
+-- A replay is refused so: an entry doesn't fit, memory ran out, or the journal is full.
+abbrev pub IsPlayFault : LogFault → Type 0
+IsPlayFault (Damaged place why) = Unit {0}
+IsPlayFault (Failed f) = (f ≡ NoMemory) ⊎ (f ≡ JournalFull)
+IsPlayFault other = ⊥

@@ -6,22 +6,27 @@ ghost use Rattle.scp_turn.specs.Kv.{Goes, Watched};
 ghost use Rattle.scp_turn.specs.Watch.{notes};
 ghost use Rattle.scp_turn.specs.Episode.{IsOfHost, finds_full};
 ghost use Rattle.scp_live_lines.specs.Timers.{changes};
-ghost use Rattle.scp_live.specs.Live.{IsTold, AreTimersOf, refusal, sent_line, new_fates, new_decisions, newly_applied};
+ghost use Rattle.scp_live.specs.Live.{IsTold, AreTimersOf, fate_at, outcome, sent_line, new_fates, new_decisions, newly_applied};
 
-use crate::telling::{Marks, digest_from, tell_new, tell_refusal, tell_sent};
+use crate::telling::{Marks, digest_from, fate_at, tell_new, tell_outcome, tell_sent};
 use scp_again::below::node::{Event, KvDriver, Node, Timer, timers};
 use scp_again::below::types::{Fault, Hash};
 use scp_live_lines::write_changes;
-use scp_turn::{Played, Watch, play_with};
+use scp_turn::{CommandFate, Played, Watch, play_with};
 use std::alloc::Global;
 
-/// Reports the reply and what was sent, and returns the digest of the lines of what was sent.
-fn tell_played(text: &mut String, names: &[String], played: &Played) -> Result<Hash, Fault>
-    ensures told { OnOk result (string_bytes text.new ≡ string_bytes text.old ++ refusal played.now.reply ++ flat_map (sent_line (map string_bytes names.now)) played.now.sent.items) }
+/// Reports the reply, or why the command changed nothing, and what was sent. Returns the digest of the lines of what was sent.
+fn tell_played(
+    text: &mut String,
+    names: &[String],
+    played: &Played,
+    fate: Option<CommandFate>,
+) -> Result<Hash, Fault>
+    ensures told { OnOk result (string_bytes text.new ≡ string_bytes text.old ++ outcome played.now.reply fate ++ flat_map (sent_line (map string_bytes names.now)) played.now.sent.items) }
     ensures digest { IfOk result (λ hash. hash.0 ≡ sha256 (flat_map (sent_line (map string_bytes names.now)) played.now.sent.items)) }
     ensures only_memory { IsOkUnless result Fault.NoMemory }
 {
-    tell_refusal(text, &played.reply)?;
+    tell_outcome(text, &played.reply, fate)?;
     let start = text.len();
     tell_sent(text, names, played.sent.as_slice())?;
     Ok(digest_from(text, start))
@@ -59,12 +64,13 @@ fn tell(
     running: &mut Vec<Timer>,
 ) -> Result<Hash, Fault>
     requires { node.now.failed ≡ false }
-    ensures told { OnOk result (string_bytes text.new ≡ (string_bytes text.old ++ refusal played.now.reply ++ flat_map (sent_line (map string_bytes names.now)) played.now.sent.items) ++ (new_fates (map string_bytes names.now) marks.fates node.now ++ new_decisions (map string_bytes names.now) marks.decisions node.now ++ newly_applied marks.applied node.now) ++ changes running.old.items running.new.items) }
+    ensures told { OnOk result (string_bytes text.new ≡ (string_bytes text.old ++ outcome played.now.reply (fate_at node.now marks.is_command) ++ flat_map (sent_line (map string_bytes names.now)) played.now.sent.items) ++ (new_fates (map string_bytes names.now) marks.fates node.now ++ new_decisions (map string_bytes names.now) marks.decisions node.now ++ newly_applied marks.applied node.now) ++ changes running.old.items running.new.items) }
     ensures digest { IfOk result (λ hash. hash.0 ≡ sha256 (flat_map (sent_line (map string_bytes names.now)) played.now.sent.items)) }
     ensures timers { OnOk result (AreTimersOf node.now running.new.items) }
     ensures only_memory { IsOkUnless result Fault.NoMemory }
 {
-    let hash = tell_played(text, names, played)?;
+    let fate = fate_at(node, marks.is_command);
+    let hash = tell_played(text, names, played, fate)?;
     tell_rest(alloc, text, names, node, marks, running)?;
     Ok(hash)
 }
@@ -87,7 +93,7 @@ pub fn act_with<W: Watch<KvDriver>>(
     ensures failed { IsErrOf result Fault.Failed ↔ (node.old.failed ≡ true) }
     ensures only { IfErr result (λ f. (f ≡ Fault.NoMemory) ⊎ ((f ≡ Fault.JournalFull) ⊎ (f ≡ Fault.Failed))) }
 {
-    let marks = Marks::of(node);
+    let marks = Marks::of(node, &event);
     match play_with(alloc, node, event, watch) {
         Ok(played) => tell(alloc, text, names, node, marks, &played, running),
         Err(fault) => Err(fault),

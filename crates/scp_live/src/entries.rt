@@ -1,13 +1,14 @@
 //! How the entries of a log are played again.
 ghost use Rattle.std.specs.Prelude.{◌≡◌, ◌⊎◌, ◌↔◌, ◌<◌, ℕ, true, IfOk, IfErr, IfSome, IfNone, OnOk, Err, length};
 ghost use Rattle.scp_again.specs.scp_types.specs.declared.fault.Fault.{Fault};
-ghost use Rattle.scp_live_log.specs.declared.kept.LogFault.TheVariants.{Another, Damaged, Failed};
+ghost use Rattle.scp_live_log.specs.declared.kept.LogFault.TheVariants.{Damaged, Failed};
+ghost use Rattle.scp_live_log.specs.declared.wanted.Unfit.{Unfit};
 ghost use Rattle.scp_turn.specs.Kv.{Goes, Watched};
 ghost use Rattle.scp_turn.specs.Watch.{notes};
 ghost use Rattle.scp_live_lines.specs.declared.asked.Asked.TheVariants as asked;
 ghost use Rattle.scp_live_lines.specs.Says.{Says};
 ghost use Rattle.scp_turn.specs.Episode.{IsOfHost, finds_full};
-ghost use Rattle.scp_live.specs.Replays.{IsReplayed, AreReplayed, SaysNoEvent, IsUnfit, IsUnfitAt};
+ghost use Rattle.scp_live.specs.Replays.{IsReplayed, AreReplayed, SaysNoEvent, IsUnfit, IsUnfitAt, IsPlayFault};
 ghost use Rattle.scp_live.specs.inside.Replaying.{IsReplayFault};
 ghost use Rattle.scp_live.specs.Living.{IsLive};
 
@@ -15,7 +16,7 @@ use crate::live::Live;
 use scp_again::below::node::{Event, KvDriver};
 use scp_again::below::types::Fault;
 use scp_live_lines::{Asked, WordFault, read_line};
-use scp_live_log::{Entry, LogFault};
+use scp_live_log::{Entry, LogFault, Unfit};
 use scp_turn::Watch;
 use std::alloc::{AllocError, Global};
 
@@ -40,8 +41,8 @@ pub fn event_in(alloc: Global, live: &Live, line: &[u8]) -> Result<Option<Event>
 fn event_of(alloc: Global, live: &Live, entry: &Entry, place: usize) -> Result<Event, LogFault>
     ensures says { IfOk result (λ event. Says live.now.names entry.now.line (asked.Event event)) }
     ensures host { IfOk result IsOfHost }
-    ensures unsaid { result ≡ Err (Damaged place) → SaysNoEvent live.now.names entry.now.line }
-    ensures only { IfErr result (λ f. (f ≡ Failed Fault.NoMemory) ⊎ (f ≡ Damaged place)) }
+    ensures unsaid { result ≡ Err (Damaged place Unfit.NoEvent) → SaysNoEvent live.now.names entry.now.line }
+    ensures only { IfErr result (λ f. (f ≡ Failed Fault.NoMemory) ⊎ (f ≡ Damaged place Unfit.NoEvent)) }
 {
     let found = match event_in(alloc, live, entry.line()) {
         Ok(found) => found,
@@ -49,7 +50,7 @@ fn event_of(alloc: Global, live: &Live, entry: &Entry, place: usize) -> Result<E
     };
     match found {
         Some(event) => Ok(event),
-        None => Err(LogFault::Damaged(place)),
+        None => Err(LogFault::Damaged(place, Unfit::NoEvent)),
     }
 }
 
@@ -63,7 +64,7 @@ fn replay_entry<W: Watch<KvDriver>>(
     watch: &mut W,
 ) -> Result<(), LogFault>
     requires live { IsLive live.old.node }
-    ensures replayed { Goes live.old.node live.new.node (λ _ heard _. (OnOk result (IsReplayed entry.now live.old heard live.new) × (result ≡ Err (Damaged place) → IsUnfit entry.now live.old heard live.new) × ((result ≡ Err (Failed Fault.JournalFull)) ↔ (finds_full heard ≡ true))) × Watched (notes W.notes_before W.notes_after) 1 watch.old live.old.node heard live.new.node watch.new) }
+    ensures replayed { Goes live.old.node live.new.node (λ _ heard _. (OnOk result (IsReplayed entry.now live.old heard live.new) × ((why : Unfit) → result ≡ Err (Damaged place why) → IsUnfit why entry.now live.old heard live.new) × ((result ≡ Err (Failed Fault.JournalFull)) ↔ (finds_full heard ≡ true))) × Watched (notes W.notes_before W.notes_after) 1 watch.old live.old.node heard live.new.node watch.new) }
     ensures live { OnOk result (IsLive live.new.node) }
     ensures only { IfErr result (IsReplayFault place) }
 {
@@ -79,7 +80,7 @@ fn replay_entry<W: Watch<KvDriver>>(
     if sent == entry.sent() {
         Ok(())
     } else {
-        Err(LogFault::Damaged(place))
+        Err(LogFault::Damaged(place, Unfit::SendsOtherwise))
     }
 }
 
@@ -93,11 +94,10 @@ pub fn replay<W: Watch<KvDriver>>(
     watch: &mut W,
 ) -> Result<(), LogFault>
     requires live { IsLive live.old.node }
-    ensures replayed { Goes live.old.node live.new.node (λ _ heard _. (OnOk result (AreReplayed entries.now live.old heard live.new) × ((n : ℕ) → result ≡ Err (Damaged n) → IsUnfitAt entries.now n live.old heard live.new) × ((result ≡ Err (Failed Fault.JournalFull)) ↔ (finds_full heard ≡ true))) × Watched (notes W.notes_before W.notes_after) 1 watch.old live.old.node heard live.new.node watch.new) }
+    ensures replayed { Goes live.old.node live.new.node (λ _ heard _. (OnOk result (AreReplayed entries.now live.old heard live.new) × ((n : ℕ) (why : Unfit) → result ≡ Err (Damaged n why) → IsUnfitAt entries.now n why live.old heard live.new) × ((result ≡ Err (Failed Fault.JournalFull)) ↔ (finds_full heard ≡ true))) × Watched (notes W.notes_before W.notes_after) 1 watch.old live.old.node heard live.new.node watch.new) }
     ensures live { OnOk result (IsLive live.new.node) }
-    ensures another { result ≡ Err Another → ⊥ }
-    ensures damaged { (n : ℕ) → result ≡ Err (Damaged n) → n < length entries.now }
-    ensures only { (fault : Fault) → result ≡ Err (Failed fault) → (fault ≡ Fault.NoMemory) ⊎ (fault ≡ Fault.JournalFull) }
+    ensures damaged { (n : ℕ) (why : Unfit) → result ≡ Err (Damaged n why) → n < length entries.now }
+    ensures only { IfErr result IsPlayFault }
 {
     for (place, entry) in entries.iter().enumerate() {
         match replay_entry(alloc, live, entry, place, watch) {

@@ -3,14 +3,14 @@ ghost use Rattle.std.specs.Prelude.{◌≡◌, ◌≢◌, ◌⊎◌, ◌++◌, c
 ghost use Rattle.std.specs.Fmt.{decimal};
 ghost use Rattle.scp_again.specs.scp_types.specs.declared.fault.Fault.TheVariants.{NoMemory};
 ghost use Rattle.scp_report.specs.scp_device.specs.Device.{Gains, GainsPart, Fails};
-ghost use Rattle.scp_live_log.specs.declared.kept.LogFault.TheVariants.{Failed};
+ghost use Rattle.scp_live_log.specs.declared.kept.LogFault.TheVariants.{Damaged, Failed};
 ghost use Rattle.scp_live_config.specs.Texts.{fault_text};
 ghost use Rattle.scp_live.specs.Failing as words;
 
 use itoa::Buffer;
 use scp_again::below::types::Fault;
 use scp_live_config::{ConfigFault, write_fault};
-use scp_live_log::LogFault;
+use scp_live_log::{LogFault, Unfit, Wanted};
 use scp_report::below::device::{ReportOut, write_text};
 use std::alloc::{AllocError, Global};
 
@@ -71,17 +71,80 @@ fn write_both<W: ReportOut>(writer: &mut W, front: &str, back: &str) -> Result<(
     write_text(writer, back)
 }
 
-/// Writes a text, a number in decimal digits, and a line end, without memory. The one refusal is `Fault::Device`, if the writer failed.
-fn write_line<W: ReportOut>(writer: &mut W, front: &str, number: u64) -> Result<(), Fault>
-    ensures whole { OnOk result (Gains (W.written writer.old) (front.now ++ decimal number ++ codes "\n") (W.written writer.new)) }
-    ensures part { OnErr result (GainsPart (W.written writer.old) (front.now ++ decimal number ++ codes "\n") (W.written writer.new)) }
+/// Writes a number in decimal digits between two texts, without memory. The one refusal is `Fault::Device`, if the writer failed.
+fn write_number<W: ReportOut>(
+    writer: &mut W,
+    front: &str,
+    number: u64,
+    back: &str,
+) -> Result<(), Fault>
+    ensures whole { OnOk result (Gains (W.written writer.old) (front.now ++ decimal number ++ back.now) (W.written writer.new)) }
+    ensures part { OnErr result (GainsPart (W.written writer.old) (front.now ++ decimal number ++ back.now) (W.written writer.new)) }
     ensures raised { OnErr result (Fails (W.failures writer.old) (W.failures writer.new)) }
     ensures kept { OnOk result (W.failures writer.new ≡ W.failures writer.old) }
 {
     let mut buffer = Buffer::new();
     let digits = buffer.format(number);
     write_both(writer, front, digits)?;
-    write_text(writer, "\n")
+    write_text(writer, back)
+}
+
+/// The end of the line of an entry that doesn't fit.
+fn unfit_end(why: Unfit) -> &'static str
+    ensures { result.now ≡ words.unfit_end why }
+{
+    match why {
+        Unfit::Chain => ": the chain doesn't fit\n",
+        Unfit::NoEvent => ": the line says no event\n",
+        Unfit::SendsOtherwise => ": something else is sent\n",
+    }
+}
+
+/// The line of a log with so many entries, where at least so many are wanted, written without memory.
+fn write_least<W: ReportOut>(writer: &mut W, count: u64, least: u64) -> Result<(), Fault>
+    ensures whole { OnOk result (Gains (W.written writer.old) ((codes "fault 9 log has " ++ decimal count ++ codes " events, expected at least ") ++ (codes "" ++ decimal least ++ codes "\n")) (W.written writer.new)) }
+    ensures part { OnErr result (GainsPart (W.written writer.old) ((codes "fault 9 log has " ++ decimal count ++ codes " events, expected at least ") ++ (codes "" ++ decimal least ++ codes "\n")) (W.written writer.new)) }
+    ensures raised { OnErr result (Fails (W.failures writer.old) (W.failures writer.new)) }
+    ensures kept { OnOk result (W.failures writer.new ≡ W.failures writer.old) }
+{
+    write_number(
+        writer,
+        "fault 9 log has ",
+        count,
+        " events, expected at least ",
+    )?;
+    write_number(writer, "", least, "\n")
+}
+
+/// The line of a log with so many entries, where another count is wanted, written without memory.
+fn write_count<W: ReportOut>(writer: &mut W, count: usize, wanted: Wanted) -> Result<(), Fault>
+    ensures whole { OnOk result (Gains (W.written writer.old) (words.count_line count wanted) (W.written writer.new)) }
+    ensures part { OnErr result (GainsPart (W.written writer.old) (words.count_line count wanted) (W.written writer.new)) }
+    ensures raised { OnErr result (Fails (W.failures writer.old) (W.failures writer.new)) }
+    ensures kept { OnOk result (W.failures writer.new ≡ W.failures writer.old) }
+{
+    match wanted {
+        Wanted::AtLeast(least) => write_least(writer, count as u64, least as u64),
+        Wanted::New => {
+            let back = " events, expected none\n";
+            write_number(writer, "fault 9 log has ", count as u64, back)
+        }
+    }
+}
+
+/// The line of an entry that doesn't fit, written without memory.
+fn write_damaged<W: ReportOut>(writer: &mut W, place: usize, why: Unfit) -> Result<(), Fault>
+    ensures whole { OnOk result (Gains (W.written writer.old) (words.fault_line (Damaged place why)) (W.written writer.new)) }
+    ensures part { OnErr result (GainsPart (W.written writer.old) (words.fault_line (Damaged place why)) (W.written writer.new)) }
+    ensures raised { OnErr result (Fails (W.failures writer.old) (W.failures writer.new)) }
+    ensures kept { OnOk result (W.failures writer.new ≡ W.failures writer.old) }
+{
+    write_number(
+        writer,
+        "fault 12 log line ",
+        log_line(place),
+        unfit_end(why),
+    )
 }
 
 /// The line of a fault, written without memory.
@@ -93,8 +156,13 @@ fn write_fault_line<W: ReportOut>(fault: LogFault, writer: &mut W) -> Result<(),
 {
     match fault {
         LogFault::Another => write_text(writer, "fault 9 log of another configuration\n"),
-        LogFault::Damaged(place) => write_line(writer, "fault 12 log line ", log_line(place)),
-        LogFault::Failed(fault) => write_line(writer, "fault ", u64::from(fault.number())),
+        LogFault::Unbegun => write_text(writer, "fault 9 log isn't begun: --new begins it\n"),
+        LogFault::Count(count, wanted) => write_count(writer, count, wanted),
+        LogFault::Damaged(place, why) => write_damaged(writer, place, why),
+        LogFault::Moved => write_text(writer, "fault 14 log was moved\n"),
+        LogFault::Failed(fault) => {
+            write_number(writer, "fault ", u64::from(fault.number()), "\n")
+        }
     }
 }
 
@@ -104,8 +172,9 @@ fn status_of(fault: LogFault) -> u8
     ensures some { result ≢ 0 }
 {
     match fault {
-        LogFault::Another | LogFault::Damaged(_) => 1,
-        LogFault::Failed(_) => 3,
+        LogFault::Another | LogFault::Unbegun | LogFault::Count(_, _) | LogFault::Damaged(_, _) =>
+            1,
+        LogFault::Moved | LogFault::Failed(_) => 3,
     }
 }
 

@@ -3,10 +3,11 @@
 //! What it promises:
 //! - an event is played whole: its own step, and, if it is accepted, all further steps until the node rests and has sent all that waits
 //!   for the peers of open links;
-//! - what is written for an event is exactly this, in this order: why it was refused, what was sent, each new fate, decision and applied
-//!   slot, the timers that no longer run, and those that run from now on;
+//! - what is written for an event is exactly this, in this order: why it was refused, or why its command changed nothing; what was sent;
+//!   each new fate, decision and applied slot; the timers that no longer run, and those that run from now on;
 //! - the call returns the digest of the lines of what was sent;
 //! - the timers that a host was last asked to run are those that should run;
+//! - how many entries of each peer changed nothing is kept as the journal grows, and is the count over the whole journal;
 //! - the answer to `report` is a function of the node's record (`Report` of `scp_report`): its fates, applied slots and keys;
 //! - what is sent once more to a peer is the own statements that the node emitted last and its requests, and nothing else;
 //! - the ledger theorem holds of the node for all that it received and replied;
@@ -28,6 +29,8 @@ pub mod below;
 mod check;
 mod entries;
 mod failing;
+mod full;
+mod idle;
 mod laws;
 mod live;
 mod nolog;
@@ -43,5 +46,5 @@ pub use laws::{
 };
 pub use live::Live;
 pub use nolog::NoLog;
-pub use settings::{begun, header, settings_of};
+pub use settings::{begun, begun_from, header, settings_of};
 pub use telling::name_of;

@@ -1,16 +1,23 @@
 //! A live node.
-ghost use Rattle.std.specs.Prelude.{◌≡◌, ◌⊎◌, ◌↔◌, [], false, true, map, IfOk, IfErr, OnOk, IsErrOf, Err, string_bytes};
+ghost use Rattle.std.specs.Prelude.{◌≡◌, ◌⊎◌, ◌↔◌, ◌+◌, [], false, true, map, IfOk, IfErr, OnOk, IsErrOf, IsOkUnless, Err, string_bytes};
 ghost use Rattle.scp_again.specs.scp_types.specs.declared.fault.Fault.{Fault};
+ghost use Rattle.scp_again.specs.scp_xdr.specs.Words.{IsReadingFault};
+ghost use Rattle.scp_again.specs.scp_driver.specs.Driver.{IsBase};
+ghost use Rattle.scp_again.specs.scp_driver.specs.Kv.{kv_says};
+ghost use Rattle.scp_again.specs.scp_kv.specs.Saved.{bytes_of, state_of};
 ghost use Rattle.scp_again.specs.scp_core.specs.Config.{IsConfigOfMany};
 ghost use Rattle.scp_again.specs.scp_core.specs.Node.{accepts_at};
 ghost use Rattle.scp_again.specs.scp_core.specs.Kv.{LedgerTheorem};
+ghost use Rattle.scp_again.specs.scp_core.specs.Theorem.{LedgerTheoremFrom};
 ghost use Rattle.scp_turn.specs.Turn.{links_of};
 ghost use Rattle.scp_turn.specs.Kv.{Goes, Watched};
 ghost use Rattle.scp_turn.specs.Watch.{notes};
 ghost use Rattle.scp_turn.specs.Episode.{IsOfHost, finds_full};
 ghost use Rattle.scp_live.specs.Live.{IsTold, AreTimersOf};
+ghost use Rattle.scp_live.specs.Idle.{idle_at};
 
 use crate::acting;
+use crate::idle::{count_on, counts};
 use scp_again::below::node::{Config, Event, KvDriver, Node, Timer, timers};
 use scp_again::below::types::{Fault, Hash, LINK_LIMIT};
 use scp_live_config::Named;
@@ -25,6 +32,8 @@ pub struct Live {
     pub(crate) names: Vec<String>,
     pub(crate) nodes: Vec<Named>,
     pub(crate) timers: Vec<Timer>,
+    /// How many entries of the journal changed nothing, for each peer.
+    pub(crate) idle: Vec<usize>,
 }
 
 // (written out, so that whoever drops one has one call to prove, and not each part of a node)
@@ -36,6 +45,7 @@ impl Drop for Live {
             names: _,
             nodes: _,
             timers: _,
+            idle: _,
         } = self;
     }
 }
@@ -47,13 +57,17 @@ impl Model for Live {
     ghost use Rattle.scp_again.specs.scp_quorum.specs.inside.QuorumTree.{coded_level};
     ghost use Rattle.scp_again.specs.scp_driver.specs.contracts.kv_driver.KvDriver as driver;
     ghost use Rattle.scp_again.specs.scp_ledger.specs.inside.Coding.{machine_code};
+    ghost use Rattle.std.specs.Prelude.{◌≡◌};
     ghost use Rattle.scp_live.specs.Live.{LiveView};
+    ghost use Rattle.scp_live.specs.Idle.{idle_counts};
 
     ghost Value = { LiveView };
 
     ghost coded = { Prim.hlevel (codes, machine_code driver.the_row.coded, coded_row coded_level) };
 
     ghost view = { λ a. record { node = a.node; names = map string_bytes a.names.items; nodes = a.nodes.items; timers = a.timers.items } };
+
+    ghost invariant = { λ a. a.idle.items ≡ idle_counts a.node };
 }
 
 impl Live {
@@ -76,13 +90,51 @@ impl Live {
         ensures only { IfErr result (λ f. (f ≡ Fault.BadConfig) ⊎ (f ≡ Fault.NoMemory)) }
     {
         let node = Node::of_many(alloc, config, KvDriver)?;
+        Live::of(alloc, node, names, nodes)
+    }
+
+    /// The same node, but it begins with the slot after `before`, and with the state that these bytes say (`Node::begin`). With 0 and no bytes
+    /// it is the one that `new` makes. Refused as `Node::begin` is.
+    pub fn begin(
+        alloc: Global,
+        config: Config,
+        names: Vec<String>,
+        nodes: Vec<Named>,
+        before: u32,
+        base: Vec<u8>,
+    ) -> Result<Live, Fault>
+        ensures theorem { IfOk result (λ live. LedgerTheoremFrom kv_says (before + 1) base.items [] live.node) }
+        ensures config { IfOk result (λ live. live.node.config ≡ config) }
+        ensures names { IfOk result (λ live. live.names ≡ map string_bytes names.items) }
+        ensures nodes { IfOk result (λ live. live.nodes ≡ nodes.items) }
+        ensures timers { IfOk result (λ live. AreTimersOf live.node live.timers) }
+        ensures runs { IfOk result (λ live. live.node.failed ≡ false) }
+        ensures refused { result ≡ Err Fault.BadConfig ↔ ¬ (IsConfigOfMany config) }
+        ensures no_state { IfErr result (λ f. IsReadingFault f → ¬ (IsBase state_of bytes_of base.items)) }
+        ensures only { IfErr result (λ f. (f ≡ Fault.BadConfig) ⊎ ((f ≡ Fault.NoMemory) ⊎ IsReadingFault f)) }
+    {
+        let node = Node::begin(alloc, config, KvDriver, before, base)?;
+        Live::of(alloc, node, names, nodes)
+    }
+
+    /// This node, with these names, and with the timers that its host is to run.
+    fn of(alloc: Global, node: Node, names: Vec<String>, nodes: Vec<Named>) -> Result<Live, Fault>
+        requires { node.failed ≡ false }
+        ensures node { IfOk result (λ live. live.node ≡ node) }
+        ensures names { IfOk result (λ live. live.names ≡ map string_bytes names.items) }
+        ensures nodes { IfOk result (λ live. live.nodes ≡ nodes.items) }
+        ensures timers { IfOk result (λ live. AreTimersOf live.node live.timers) }
+        ensures only_memory { IsOkUnless result Fault.NoMemory }
+    {
         let timers = timers(alloc, node.ledger())?;
+        let idle = counts(alloc, node.journal(), node.peers())?;
         Ok(Live {
             alloc,
             node,
             names,
             nodes,
             timers,
+            idle,
         })
     }
 
@@ -109,7 +161,8 @@ impl Live {
         ensures failed { IsErrOf result Fault.Failed ↔ (self.old.node.failed ≡ true) }
         ensures only { IfErr result (λ f. (f ≡ Fault.NoMemory) ⊎ ((f ≡ Fault.JournalFull) ⊎ (f ≡ Fault.Failed))) }
     {
-        acting::act_with(
+        let before = self.node.journal().len();
+        let result = acting::act_with(
             self.alloc,
             &mut self.node,
             self.names.as_slice(),
@@ -117,7 +170,14 @@ impl Live {
             event,
             text,
             watch,
-        )
+        );
+        count_on(
+            self.idle.as_mut_slice(),
+            self.node.peers(),
+            self.node.journal(),
+            before,
+        );
+        result
     }
 
     /// The node.
@@ -146,6 +206,16 @@ impl Live {
         ensures { result ≡ links_of self.now.node }
     {
         self.node.peers().len().min(LINK_LIMIT as usize) as u8
+    }
+
+    /// How many entries of the journal are of the peer of this link, and changed nothing.
+    pub fn idle(&self, link: u8) -> usize
+        ensures { result ≡ idle_at self.now.node link }
+    {
+        match self.idle.get(link as usize) {
+            Some(count) => *count,
+            None => 0,
+        }
     }
 
     /// Whether a link is open and has room for what its peer sends.

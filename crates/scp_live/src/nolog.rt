@@ -1,4 +1,5 @@
 //! A log that keeps nothing.
+ghost use Rattle.std.specs.Prelude.{false};
 
 use scp_again::below::types::Fault;
 use scp_live_log::EventLog;
@@ -19,9 +20,17 @@ impl EventLog for NoLog {
 
     ghost faults = { λ _. 0 };
 
+    ghost moved = { λ _. false };
+
     ghost counts_now = { λ _ _ _ _ left. left };
 
     ghost only_now = { λ _ _ left. left };
+
+    fn was_moved(&self) -> bool {
+        false
+    }
+
+    fn tell_torn(&self, _bytes: usize, _entries: usize) {}
 
     fn read(&mut self, alloc: Global) -> Result<Vec<u8>, Fault> {
         Ok(Vec::new(alloc))

@@ -1,8 +1,11 @@
 //! The settings that a text gives, the node with these settings, and the first line of its log.
-ghost use Rattle.std.specs.Prelude.{◌≡◌, ◌⊎◌, IfOk, IfErr, IsOkUnless};
+ghost use Rattle.std.specs.Prelude.{◌≡◌, ◌⊎◌, ◌+◌, IfOk, IfErr, IsOkUnless};
+ghost use Rattle.scp_again.specs.scp_xdr.specs.Words.{IsReadingFault};
+ghost use Rattle.scp_again.specs.scp_driver.specs.Driver.{IsBase};
+ghost use Rattle.scp_again.specs.scp_kv.specs.Saved.{bytes_of, state_of};
 ghost use Rattle.scp_again.specs.scp_core.specs.Config.{IsConfigOfMany};
 ghost use Rattle.scp_live_log.specs.Log.{IsLine};
-ghost use Rattle.scp_live.specs.Beginning.{Configures, config_in, header_of, IsNew};
+ghost use Rattle.scp_live.specs.Beginning.{Configures, config_in, header_of, IsNew, IsNewFrom};
 ghost use Rattle.scp_live.specs.Failing.{IsConfigFault};
 ghost use Rattle.scp_live.specs.Living.{IsLive};
 
@@ -63,6 +66,30 @@ pub fn begun(alloc: Global, settings: &Settings) -> Result<Live, Fault>
     let config = config_of(alloc, settings)?;
     let nodes = copied(alloc, settings.names.as_slice())?;
     Live::new(alloc, config, settings.link_names(alloc)?, nodes)
+}
+
+/// A node with these settings, which begins with the slot after `before`, and with the state that these bytes say, and has received no event.
+/// Refused by `BadConfig` if no node can have the settings, by `Malformed` or `TooLong` if the bytes say no state, otherwise by `NoMemory`.
+pub fn begun_from(
+    alloc: Global,
+    settings: &Settings,
+    before: u32,
+    base: Vec<u8>,
+) -> Result<Live, Fault>
+    ensures new { IfOk result (IsNewFrom settings.now (before + 1) base.items) }
+    ensures live { IfOk result (λ live. IsLive live.node) }
+    ensures only { IfErr result (λ f. (f ≡ Fault.NoMemory) ⊎ (((f ≡ Fault.BadConfig) × ¬ (IsConfigOfMany (config_in settings.now))) ⊎ (IsReadingFault f × ¬ (IsBase state_of bytes_of base.items)))) }
+{
+    let config = config_of(alloc, settings)?;
+    let nodes = copied(alloc, settings.names.as_slice())?;
+    Live::begin(
+        alloc,
+        config,
+        settings.link_names(alloc)?,
+        nodes,
+        before,
+        base,
+    )
 }
 
 /// The first line of the log of a configuration with this digest.

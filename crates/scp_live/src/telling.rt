@@ -4,12 +4,14 @@ ghost use Rattle.sha2.specs.Sha256.{sha256};
 ghost use Rattle.scp_live_lines.specs.Names.{name_at};
 ghost use Rattle.scp_live_lines.specs.Fates.{fate_line};
 ghost use Rattle.scp_live_lines.specs.Decisions.{decided_line, applied_line};
-ghost use Rattle.scp_live.specs.Live.{sent_line, refusal, new_fates, new_decisions, newly_applied};
+ghost use Rattle.scp_live.specs.Live.{sent_line, is_told, has_fate, fate_at, ignored, outcome, new_fates, new_decisions, newly_applied};
 
-use scp_again::below::node::{Fate, Node, Reply, SharedDecision};
+use scp_again::below::node::{Event, Fate, Node, Reply, SharedDecision};
 use scp_again::below::types::{Hash, NodeId};
-use scp_live_lines::{write_applied, write_decided, write_fate, write_refused, write_send};
-use scp_turn::Sending;
+use scp_live_lines::{
+    write_applied, write_decided, write_fate, write_ignored, write_refused, write_send,
+};
+use scp_turn::{Command, CommandFate, Sending};
 use sha2::{Digest, Sha256};
 use std::alloc::AllocError;
 
@@ -34,12 +36,57 @@ pub fn name_of<'a>(names: &'a [String], link: u8) -> &'a str
     }
 }
 
-/// Reports why an event was refused, if it was.
-pub fn tell_refusal(text: &mut String, reply: &Reply) -> Result<(), AllocError>
-    ensures { OnOk result (string_bytes text.new ≡ string_bytes text.old ++ refusal reply.now) }
+/// Whether the slot stage says what becomes of the command.
+fn is_told(command: &Command) -> bool
+    ensures { result ≡ is_told command.now }
+{
+    match command {
+        Command::Tick => false,
+        _ => true,
+    }
+}
+
+/// Whether the event is a command of which the slot stage says what becomes.
+fn has_fate(event: &Event) -> bool
+    ensures { result ≡ has_fate event.now }
+{
+    match event {
+        Event::Local(command) => is_told(command),
+        _ => false,
+    }
+}
+
+/// What became of an event's command, as the node shows it.
+pub fn fate_at(node: &Node, is_command: bool) -> Option<CommandFate>
+    ensures { result ≡ fate_at node.now is_command }
+{
+    if is_command {
+        node.last_command()
+    } else {
+        None
+    }
+}
+
+/// Reports why a command changed nothing, if so.
+fn tell_ignored(text: &mut String, fate: Option<CommandFate>) -> Result<(), AllocError>
+    ensures { OnOk result (string_bytes text.new ≡ string_bytes text.old ++ ignored fate) }
+{
+    match fate {
+        Some(fate) => write_ignored(text, fate),
+        None => Ok(()),
+    }
+}
+
+/// Reports why an event was refused, or why its command changed nothing.
+pub fn tell_outcome(
+    text: &mut String,
+    reply: &Reply,
+    fate: Option<CommandFate>,
+) -> Result<(), AllocError>
+    ensures { OnOk result (string_bytes text.new ≡ string_bytes text.old ++ outcome reply.now fate) }
 {
     match reply {
-        Reply::Accepted => Ok(()),
+        Reply::Accepted => tell_ignored(text, fate),
         other => write_refused(text, other),
     }
 }
@@ -101,25 +148,28 @@ pub fn tell_applied(text: &mut String, applied: &[SharedDecision]) -> Result<(),
     Ok(())
 }
 
-/// How many fates, decisions and applied slots there are.
+/// How many fates, decisions and applied slots there are before an event, and whether it is a command with a fate.
 #[derive(Clone, Copy)]
 pub struct Marks {
     pub fates: usize,
     pub decisions: usize,
     pub applied: usize,
+    pub is_command: bool,
 }
 
 impl Marks {
-    /// The counts of a node.
-    pub fn of(node: &Node) -> Marks
+    /// The counts of a node before this event.
+    pub fn of(node: &Node, event: &Event) -> Marks
         ensures fates { result.fates ≡ length node.now.ledger.journal }
         ensures decisions { result.decisions ≡ length node.now.ledger.decisions }
         ensures applied { result.applied ≡ length node.now.applier.applied }
+        ensures command { result.is_command ≡ has_fate event.now }
     {
         Marks {
             fates: node.journal().len(),
             decisions: node.decisions().len(),
             applied: node.applied().len(),
+            is_command: has_fate(event),
         }
     }
 }

@@ -83,9 +83,19 @@ impl<D: Folder> EventLog for Epochs<D> {
 
     ghost faults = { λ e. D.faults e.folder };
 
+    ghost moved = { λ e. D.moved e.folder };
+
     ghost counts_now = { λ e t c le left. (left.0, D.counts_now e.folder t left.0 le left.1, left.2) };
 
     ghost only_now = { λ e c left. (left.0, D.only_now e.folder left.0 left.1, left.2) };
+
+    fn was_moved(&self) -> bool {
+        self.folder.was_moved()
+    }
+
+    fn tell_torn(&self, bytes: usize, entries: usize) {
+        self.folder.tell_torn(bytes, entries);
+    }
 
     fn read(&mut self, alloc: Global) -> Result<Vec<u8>, Fault> {
         self.folder.read(alloc)

@@ -1,5 +1,5 @@
 //! A folder as the logs of a node see it: what is in it, and what a crash may leave.
-ghost use Rattle.std.specs.Prelude.{◌≡◌, ◌≤◌, ◌++◌, ℕ, List, [], length, take, IfOk, OnOk};
+ghost use Rattle.std.specs.Prelude.{◌≡◌, ◌≤◌, ◌++◌, ℕ, Bool, List, [], length, take, IfOk, OnOk};
 ghost use Rattle.scp_live_log.specs.Disk.{Only, Follows, Torn, Cut, Elapses, HasCause};
 ghost use Rattle.scp_live_folder.specs.Folder.{FolderView, Same, Keeps, MayBe, with_now, with_next, linked, unlinked, renamed};
 
@@ -23,6 +23,16 @@ pub trait Folder {
 
     /// How many times the disk has failed.
     ghost faults: { Self → ℕ };
+
+    /// Whether a call found that somebody else moved `now`, or made it longer or shorter.
+    ghost moved: { Self → Bool };
+
+    /// The same.
+    fn was_moved(&self) -> bool
+        ensures { result ≡ moved self.now };
+
+    /// Reports to people, where they can be reached, that so many bytes of `now` behind so many entries were cut off.
+    fn tell_torn(&self, bytes: usize, entries: usize);
 
     /// Reads all the bytes of `now`.
     fn read(&mut self, alloc: Global) -> Result<Vec<u8>, Fault>

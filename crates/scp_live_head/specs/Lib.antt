@@ -1,3 +1,4 @@
+pub use Rattle.scp_live_log
 pub mod Head
 pub mod Applied
 pub mod inside

@@ -8,6 +8,7 @@
 #![tactic(auto)]
 
 mod applied;
+pub mod below;
 mod head;
 mod reading;
 mod words;

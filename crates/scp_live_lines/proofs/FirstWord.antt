@@ -25,10 +25,11 @@ verb_is word verb =
     (one_more word (codes "propose") verbs.Propose verb _ (same word (codes "propose")) refl refl
     (one_more word (codes "round") verbs.Round verb _ (same word (codes "round")) refl refl
     (one_more word (codes "timer") verbs.Timer verb _ (same word (codes "timer")) refl refl
+    (one_more word (codes "ballot") verbs.Ballot verb _ (same word (codes "ballot")) refl refl
     (one_more word (codes "tick") verbs.Tick verb _ (same word (codes "tick")) refl refl
     (one_more word (codes "ask") verbs.Ask verb _ (same word (codes "ask")) refl refl
     (one_more word (codes "again") verbs.Again verb _ (same word (codes "again")) refl refl
     (one_more word (codes "state") verbs.State verb _ (same word (codes "state")) refl refl
     (one_more word (codes "report") verbs.Report verb _ (same word (codes "report")) refl refl
     (one_more word (codes "stand") verbs.Stand verb _ (same word (codes "stand")) refl refl
-    (one_more word (codes "applied") verbs.Applied verb None (same word (codes "applied")) refl refl (λ e. absurd cc)))))))))))))
+    (one_more word (codes "applied") verbs.Applied verb None (same word (codes "applied")) refl refl (λ e. absurd cc))))))))))))))

@@ -12,6 +12,8 @@ use Rattle.scp_core.specs.scp_pending.specs.declared.ready.DropCause.{DropCause}
 use Rattle.scp_core.specs.scp_pending.specs.declared.ready.DropCause.TheVariants as drop
 use Rattle.scp_core.specs.scp_ledger.specs.declared.journal.Verdict.{Verdict}
 use Rattle.scp_core.specs.scp_ledger.specs.declared.journal.Verdict.TheVariants as verdict
+use Rattle.scp_core.specs.scp_ledger.specs.declared.took.CommandFate.{CommandFate}
+use Rattle.scp_core.specs.scp_ledger.specs.declared.took.CommandFate.TheVariants as fates
 use Rattle.scp_core.specs.scp_ledger.specs.declared.journal.Fate.{Fate}
 use Rattle.scp_core.specs.scp_ledger.specs.declared.journal.Fate.TheVariants.{Taken, Dropped, Closed}
 use Rattle.scp_core.specs.scp_ledger.specs.declared.journal.Origin.{Origin}
@@ -21,13 +23,13 @@ use Rattle.scp_core.specs.scp_slot.specs.declared.timers.Timer.{Timer}
 use Rattle.scp_core.specs.scp_slot.specs.declared.timers.Timer.TheVariants.{Round, Ballot}
 use Rattle.scp_core.specs.declared.event.Reply.{Reply}
 use Rattle.scp_core.specs.declared.event.Reply.TheVariants as reply
-use Rattle.scp_words.specs.Words.{verdict_word, cause_word, drop_word, hex_word}
+use Rattle.scp_words.specs.Words.{verdict_word, cause_word, drop_word, fate_word, hex_word}
 use Rattle.scp_script.specs.Words.{same}
 use Rattle.scp_live_lines.specs.Names.{name_at, name_if, name_of}
 use Rattle.scp_live_lines.specs.Fates.{conn_words, end_words, fate_line}
 use Rattle.scp_live_lines.specs.Decisions.{origin_words, decided_line, applied_line}
 use Rattle.scp_live_lines.specs.Timers.{runs_in, timer_line, missing_line, changes}
-use Rattle.scp_live_lines.specs.Replies.{reply_word, refused_line, ok_line}
+use Rattle.scp_live_lines.specs.Replies.{reply_word, refused_line, changes_nothing, ignored_lines, ok_line}
 use Rattle.scp_live_lines.specs.Back.{IsWord, SaysNothing}
 use Rattle.scp_live_lines.specs.Others.{AreOthers}
 use Rattle.scp_live_lines.proofs.Clear.{clear, clear_both, spaced, hex_clear, word_clear, number_clear, is_plain, other_line, nothing_both, nothing_each}
@@ -72,6 +74,21 @@ reply_clear reply.NoLink = refl
 reply_clear reply.Failed = refl
 reply_clear reply.JournalFull = refl
 reply_clear reply.NoMemory = refl
+
+fate_clear : (f : CommandFate) → clear (fate_word f) ≡ true
+fate_clear fates.OldSlot = refl
+fate_clear fates.FarSlot = refl
+fate_clear fates.Decided = refl
+fate_clear fates.BadValue = refl
+fate_clear fates.ProposedBefore = refl
+fate_clear fates.Proposed = refl
+fate_clear fates.NoRoundLeft = refl
+fate_clear fates.RoundAdded = refl
+fate_clear fates.NoBallot = refl
+fate_clear fates.BallotStays = refl
+fate_clear fates.BallotMoved = refl
+fate_clear fates.AskedBefore = refl
+fate_clear fates.Asked = refl
 
 -- ---- names
 
@@ -167,6 +184,16 @@ refusal_says r = subst SaysNothing (pieces (reply_word r)) (other_line (codes "r
     pieces : (w : List ℕ) → codes "refused" ++ 32 ∷ (w ++ 10 ∷ []) ≡ codes "refused " ++ w ++ codes "\n"
     pieces w = simp append_assoc
 
+ignored_says : (f : CommandFate) → SaysNothing (ignored_lines f)
+ignored_says f = by (changes_nothing f) (subst SaysNothing (pieces (fate_word f)) (other_line (codes "ignored") (fate_word f) refl refl (fate_clear f)))
+  where
+    pieces : (w : List ℕ) → codes "ignored" ++ 32 ∷ (w ++ 10 ∷ []) ≡ codes "ignored " ++ w ++ codes "\n"
+    pieces w = simp append_assoc
+
+    by : (b : Bool) → SaysNothing (codes "ignored " ++ fate_word f ++ codes "\n") → SaysNothing (if b then codes "ignored " ++ fate_word f ++ codes "\n" else [])
+    by true h = h
+    by false h = λ more. refl
+
 end_of_answer_says : (number : ℕ) → SaysNothing (ok_line number)
 end_of_answer_says number = subst SaysNothing (pieces (decimal number)) (other_line (codes "ok") (decimal number) refl refl (number_clear number))
   where
@@ -180,5 +207,6 @@ are_others names peers h = record {
   applied = applied_says;
   timers = changes_say;
   refusals = refusal_says;
+  ignored = ignored_says;
   ends = end_of_answer_says;
 }

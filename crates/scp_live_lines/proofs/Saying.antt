@@ -21,7 +21,7 @@ command_few : (names words : List (List ℕ)) (c : Command) → SaysCommand name
 command_few names words Tick h = let e = ap length h in omega arith
 command_few names words (Propose slot value) h = let e = ap length h.3 in omega arith
 command_few names words (Round slot) h = let e = ap length h.1 in omega arith
-command_few names words (Timer slot) h = let e = ap length h.1 in omega arith
+command_few names words (Timer slot) h = elim h.1 [ inl one ↦ (let e = ap length one in omega arith) | inr other ↦ (let e = ap length other in omega arith) ]
 command_few names words (Ask link slot) h = let e = ap length h.2 in omega arith
 
 event_few : (names words : List (List ℕ)) (x : Happening) → SaysEvent names words x → length words < 4
@@ -81,7 +81,7 @@ unfolding takes_by
 command_bytes names first rest Tick h = told_by first (codes "tick") rest _ false h refl
 command_bytes names first rest (Propose slot value) h = told_by first (codes "propose") rest _ true h.3 refl
 command_bytes names first rest (Round slot) h = told_by first (codes "round") rest _ false h.1 refl
-command_bytes names first rest (Timer slot) h = told_by first (codes "timer") rest _ false h.1 refl
+command_bytes names first rest (Timer slot) h = elim h.1 [ inl one ↦ told_by first (codes "timer") rest _ false one refl | inr other ↦ told_by first (codes "ballot") rest _ false other refl ]
 command_bytes names first rest (Ask link slot) h = told_by first (codes "ask") rest _ false h.2 refl
 
 event_bytes : (names : List (List ℕ)) (first : List ℕ) (rest : List (List ℕ)) (x : Happening) → SaysEvent names (first ∷ rest) x → takes_by (verb_in first) ≡ event_has_bytes x

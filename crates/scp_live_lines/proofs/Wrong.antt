@@ -48,7 +48,7 @@ module _ (names words : List (List ℕ)) (r : BadWord) (wrong : IsWrongIn names 
   command_wrong Tick = λ h. as_said _ h
   command_wrong (Propose slot value) = λ h. fits_two names ASlot Digits _ h.0 2 r (is_slot slot h.1) (is_digits h.0 value h.2) (as_said _ h.3)
   command_wrong (Round slot) = λ h. fits_one names ASlot _ 2 r (is_slot slot h.0) (as_said _ h.1)
-  command_wrong (Timer slot) = λ h. fits_one names ASlot _ 2 r (is_slot slot h.0) (as_said _ h.1)
+  command_wrong (Timer slot) = λ h. elim h.1 [ inl one ↦ fits_one names ASlot _ 2 r (is_slot slot h.0) (as_said _ one) | inr other ↦ fits_one names ASlot _ 2 r (is_slot slot h.0) (as_said _ other) ]
   command_wrong (Ask link slot) = λ h. fits_two names APeer ASlot _ _ 2 r (is_peer names link h.0) (is_slot slot h.1) (as_said _ h.2)
 
   event_wrong : (x : Happening) → ¬ (SaysEvent names words x)
@@ -94,6 +94,7 @@ form_is_short verbs.Recv = omega arith
 form_is_short verbs.Propose = omega arith
 form_is_short verbs.Round = omega arith
 form_is_short verbs.Timer = omega arith
+form_is_short verbs.Ballot = omega arith
 form_is_short verbs.Tick = omega arith
 form_is_short verbs.Ask = omega arith
 form_is_short verbs.Again = omega arith

@@ -1,5 +1,5 @@
 -- What the lines of a host ask for (this project's profile).
-use Rattle.std.specs.Prelude.{◌≡◌, ◌<◌, ◌^◌, ℕ, Bool, true, false, List, [], ◌∷◌, Some, length, get_or, codes}
+use Rattle.std.specs.Prelude.{◌≡◌, ◌⊎◌, ◌<◌, ◌^◌, ℕ, Bool, true, false, List, [], ◌∷◌, Some, length, get_or, codes}
 use Rattle.std.specs.Fmt.{decimal}
 use Rattle.scp_core.specs.scp_types.specs.declared.names.Slot.{Slot}
 use Rattle.scp_core.specs.scp_wire.specs.declared.link.Command.{Command}
@@ -27,13 +27,13 @@ IsNamed names link word = HasLink names link × (word ≡ name_of names link)
 abbrev pub IsSlot : Slot → Type 0
 IsSlot slot = slot.0 < 2 ^ 64
 
--- The words of a line that is a command: `tick`, `propose SLOT HEX`, `round SLOT`, `timer SLOT`, `ask PEER SLOT`.
+-- The words of a line that is a command: `tick`, `propose SLOT HEX`, `round SLOT`, `timer SLOT` or `ballot SLOT`, `ask PEER SLOT`.
 abbrev pub SaysCommand : List (List ℕ) → List (List ℕ) → Command → Type 0
 SaysCommand names words Tick = words ≡ codes "tick" ∷ []
 SaysCommand names words (Propose slot value) =
     (digits : List ℕ) × IsSlot slot × (hex_bytes digits ≡ Some value) × (words ≡ codes "propose" ∷ decimal slot.0 ∷ digits ∷ [])
 SaysCommand names words (Round slot) = IsSlot slot × (words ≡ codes "round" ∷ decimal slot.0 ∷ [])
-SaysCommand names words (Timer slot) = IsSlot slot × (words ≡ codes "timer" ∷ decimal slot.0 ∷ [])
+SaysCommand names words (Timer slot) = IsSlot slot × ((words ≡ codes "timer" ∷ decimal slot.0 ∷ []) ⊎ (words ≡ codes "ballot" ∷ decimal slot.0 ∷ []))
 SaysCommand names words (Ask link slot) = HasLink names link × IsSlot slot × (words ≡ codes "ask" ∷ name_of names link ∷ decimal slot.0 ∷ [])
 
 -- The words of a line that is an event: `open PEER`, `close PEER`, `recv PEER HEX`, or a command. No line is a step of a stage.

@@ -15,13 +15,14 @@ verb_in word =
     else (if same word (codes "propose") then Some verbs.Propose
     else (if same word (codes "round") then Some verbs.Round
     else (if same word (codes "timer") then Some verbs.Timer
+    else (if same word (codes "ballot") then Some verbs.Ballot
     else (if same word (codes "tick") then Some verbs.Tick
     else (if same word (codes "ask") then Some verbs.Ask
     else (if same word (codes "again") then Some verbs.Again
     else (if same word (codes "state") then Some verbs.State
     else (if same word (codes "report") then Some verbs.Report
     else (if same word (codes "stand") then Some verbs.Stand
-    else (if same word (codes "applied") then Some verbs.Applied else None))))))))))))
+    else (if same word (codes "applied") then Some verbs.Applied else None)))))))))))))
 
 -- What the words after the first one must be.
 abbrev pub form_of : Verb → List Expected
@@ -31,6 +32,7 @@ form_of verbs.Recv = APeer ∷ Digits ∷ []
 form_of verbs.Propose = ASlot ∷ Digits ∷ []
 form_of verbs.Round = ASlot ∷ []
 form_of verbs.Timer = ASlot ∷ []
+form_of verbs.Ballot = ASlot ∷ []
 form_of verbs.Tick = []
 form_of verbs.Ask = APeer ∷ ASlot ∷ []
 form_of verbs.Again = APeer ∷ []

@@ -38,10 +38,11 @@ pub use laws::{
     sent_lines_come_back,
 };
 pub use reading::read_line;
-pub use replies::{write_ok, write_refused};
+pub use replies::{write_ignored, write_ok, write_refused, write_turned_away};
 pub use scp_script::{BadWord, WordFault};
 pub use sent::{write_again, write_send};
 pub use state::{
-    write_applied_count, write_journal, write_key, write_link, write_lowest, write_warning,
+    is_nearly_full, write_applied_count, write_idle, write_journal, write_key, write_link,
+    write_lowest, write_warning,
 };
 pub use timers::{write_changes, write_running};

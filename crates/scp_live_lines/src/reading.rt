@@ -40,6 +40,7 @@ fn read_behind(
         }
         Verb::Round => Ok(Asked::Event(Event::Local(Command::Round(one_slot(rest)?)))),
         Verb::Timer => Ok(Asked::Event(Event::Local(Command::Timer(one_slot(rest)?)))),
+        Verb::Ballot => Ok(Asked::Event(Event::Local(Command::Timer(one_slot(rest)?)))),
         Verb::Tick => {
             nothing(rest)?;
             Ok(Asked::Event(Event::Local(Command::Tick)))

@@ -1,6 +1,6 @@
 //! The lines of a node's state.
 ghost use Rattle.std.specs.Prelude.{◌≡◌, ◌++◌, OnOk, string_bytes};
-ghost use Rattle.scp_live_lines.specs.State.{lowest_line, applied_count_line, journal_line, warning_lines, link_line, key_line};
+ghost use Rattle.scp_live_lines.specs.State.{lowest_line, applied_count_line, journal_line, warning_lines, is_nearly_full, link_line, idle_line, key_line};
 
 use scp_core::below::ledger::JOURNAL_LIMIT;
 use scp_words::write_hex;
@@ -9,6 +9,10 @@ use std::alloc::AllocError;
 /// From how many entries on a journal is reported with a warning: nine tenths of the most that it may have.
 const WARNED: usize = 900_000;
 
+/// From how many entries on a journal takes nothing more of a peer. The rest is for what the node holds already, and for the ends of its
+/// connections: at most 64 messages of each of a hundred connections, and what one message brings.
+const NEARLY_FULL: usize = 990_000;
+
 /// Adds the line of the lowest undecided slot: `lowest SLOT`.
 pub fn write_lowest(text: &mut String, slot: u64) -> Result<(), AllocError>
     ensures { OnOk result (string_bytes text.new ≡ string_bytes text.old ++ lowest_line slot) }
@@ -16,11 +20,11 @@ pub fn write_lowest(text: &mut String, slot: u64) -> Result<(), AllocError>
     writeln!(text, "lowest {slot}")
 }
 
-/// Adds the line of how many slots are applied: `applied COUNT`.
+/// Adds the line of how many slots are applied: `applied-count COUNT`.
 pub fn write_applied_count(text: &mut String, count: usize) -> Result<(), AllocError>
     ensures { OnOk result (string_bytes text.new ≡ string_bytes text.old ++ applied_count_line count) }
 {
-    writeln!(text, "applied {count}")
+    writeln!(text, "applied-count {count}")
 }
 
 /// Adds the line of how many entries the journal has, and how many it may have: `journal COUNT of 1000000`.
@@ -42,12 +46,26 @@ pub fn write_warning(text: &mut String, count: usize) -> Result<(), AllocError>
     write_journal(text, count)
 }
 
+/// Whether a journal with so many entries takes nothing more of a peer.
+pub fn is_nearly_full(count: usize) -> bool
+    ensures { result ≡ is_nearly_full count }
+{
+    NEARLY_FULL <= count
+}
+
 /// Adds the line of a link: `link NAME open LIFE`, or `link NAME closed LIFE`.
 pub fn write_link(text: &mut String, name: &str, is_open: bool, life: u32) -> Result<(), AllocError>
     ensures { OnOk result (string_bytes text.new ≡ string_bytes text.old ++ link_line name.now is_open life) }
 {
     let word = if is_open { "open" } else { "closed" };
     writeln!(text, "link {name} {word} {life}")
+}
+
+/// Adds the line of how many entries of the journal a peer sent that changed nothing: `idle NAME COUNT`.
+pub fn write_idle(text: &mut String, name: &str, count: usize) -> Result<(), AllocError>
+    ensures { OnOk result (string_bytes text.new ≡ string_bytes text.old ++ idle_line name.now count) }
+{
+    writeln!(text, "idle {name} {count}")
 }
 
 /// Adds the line of a key of the state and its value, both in hexadecimal digits: `key HEX HEX`.

@@ -1,12 +1,17 @@
 -- What stands at the front of a file.
-use Rattle.std.proofs.Common.{◌≡◌, ◌≤◌, ◌<◌, ◌+◌, ℕ, List, [], ◌∷◌, ◌++◌, length, take, drop, sym, ◌∙◌, ap, subst, refl, arith, append_assoc, length-append, length-drop}
+use Rattle.std.proofs.Common.{◌≡◌, ◌≤◌, ◌<◌, ◌+◌, ℕ, List, [], ◌∷◌, ◌++◌, length, take, drop, sym, ◌∙◌, ap, subst, refl, arith, append_assoc, length-append, length-drop, inl}
+use Rattle.std.specs.Prelude.{◌-◌}
+use Rattle.scp_device.specs.scp_types.specs.declared.fault.Fault.{Fault}
+use Rattle.scp_device.specs.scp_types.specs.declared.fault.Fault.TheVariants.{NoMemory}
 use Rattle.std.proofs.lemmas.List.{append_cancel_left, map-append, take_at, drop-drop, length-map}
 use Rattle.sha2.specs.Sha256.{sha256}
 use Rattle.scp_live_log.specs.declared.kept.Kept.{Kept}
+use Rattle.scp_live_log.specs.declared.kept.LogFault.{LogFault}
+use Rattle.scp_live_log.specs.declared.kept.LogFault.TheVariants.{Another, Unbegun, Count, Damaged, Moved, Failed}
 use Rattle.scp_live_log.specs.Disk.{StartsWith, Only}
 use Rattle.scp_live_log.specs.Log.{EntryView, Marked, AreEntries, HasNoEntry, HasBatch, log_of, spelled, spelled_entry, chained, last_digest, entries_of}
-use Rattle.scp_live_log.specs.Kept.{IsRecovered, IsAllAndMore, IsDamaged}
-use Rattle.scp_live_log.specs.inside.Front.{IsFront, IsLogFront}
+use Rattle.scp_live_log.specs.Kept.{IsRecovered, IsAllAndMore, IsTornBy, HasEntries, IsDamaged}
+use Rattle.scp_live_log.specs.inside.Front.{IsFront, IsLogFront, IsFrontFault, IsWantedFault}
 use Rattle.scp_live_log.proofs.Entries.{got_all, spelled_some}
 use Rattle.scp_live_log.proofs.Keeping.{log_more}
 
@@ -131,3 +136,30 @@ damaged_at header file rest first tail entries last size n is at behind begins c
 
 pub tail_at : (file rest tail : List ℕ) (n size : ℕ) → rest ≡ drop n file → tail ≡ drop size rest → drop (n + size) file ≡ tail
 tail_at file rest tail n size at behind = sym (behind ∙ ap (drop size) at ∙ drop-drop size n file)
+
+-- what is behind the entries is cut off
+pub torn_behind : (header file : List ℕ) (entries : List EntryView) (last : List ℕ) (size : ℕ) → IsLogFront header file entries last size → (torn : ℕ) → torn ≡ length file - size → IsTornBy header entries torn file
+torn_behind header file entries last size f torn is =
+    let long : length file ≡ length (log_of header f.marked) + length (drop size file) = ap length f.splits ∙ length-append (log_of header f.marked) (drop size file) in
+    inl (f.marked, drop size file, f.are, f.splits, omega (arith, long, f.long, is))
+
+pub has_entries : (header file : List ℕ) (entries : List EntryView) (last : List ℕ) (size n : ℕ) → length entries ≡ n → IsLogFront header file entries last size → HasEntries header n file
+has_entries header file entries last size n count f = record {
+  marked = f.marked;
+  tail = drop size file;
+  count = sym (length-map f.marked (λ (m : Marked). m.entry)) ∙ ap length f.are ∙ count;
+  splits = f.splits;
+  unfit = subst (λ d. HasNoEntry d (drop size file)) f.ends f.no_more;
+}
+
+-- why a front isn't what is wanted
+pub front_wanted : (f : LogFault) → IsFrontFault f → IsWantedFault f
+front_wanted Another why = tt
+front_wanted Unbegun why = absurd why
+front_wanted (Count n wanted) why = absurd why
+front_wanted (Damaged n unfit) why = tt
+front_wanted Moved why = absurd why
+front_wanted (Failed fault) why = why
+
+pub wanted_failed : (f : LogFault) (x : Fault) → IsWantedFault f → f ≡ Failed x → x ≡ NoMemory
+wanted_failed f x why is = subst (λ (e : LogFault). IsWantedFault e) is why

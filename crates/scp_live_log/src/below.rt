@@ -5,5 +5,5 @@ pub mod types {
 }
 
 pub mod device {
-    pub use scp_device::ScriptIn;
+    pub use scp_device::{ReportOut, ScriptIn, read_script, write_text};
 }

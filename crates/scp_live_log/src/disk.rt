@@ -1,5 +1,5 @@
 //! A disk as the log sees it: what a read returns, and what a crash may leave.
-ghost use Rattle.std.specs.Prelude.{◌≡◌, ◌≤◌, ◌++◌, ℕ, List, length, take, IfOk, OnOk};
+ghost use Rattle.std.specs.Prelude.{◌≡◌, ◌≤◌, ◌++◌, ℕ, Bool, List, length, take, IfOk, OnOk};
 ghost use Rattle.scp_live_log.specs.Disk.{Only, Follows, Torn, Cut, Elapses, LeavesOnly, IsEither, HasCause};
 
 use scp_device::below::types::Fault;
@@ -21,6 +21,16 @@ pub trait EventLog {
 
     /// How many times the disk has failed.
     ghost faults: { Self → ℕ };
+
+    /// Whether a call found that somebody else moved the file, or made it longer or shorter.
+    ghost moved: { Self → Bool };
+
+    /// The same.
+    fn was_moved(&self) -> bool
+        ensures { result ≡ moved self.now };
+
+    /// Reports to people, where they can be reached, that so many bytes behind so many entries were cut off.
+    fn tell_torn(&self, bytes: usize, entries: usize);
 
     /// Reads all the bytes.
     fn read(&mut self, alloc: Global) -> Result<Vec<u8>, Fault>

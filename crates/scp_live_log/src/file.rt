@@ -1,5 +1,5 @@
 //! A log in a file.
-ghost use Rattle.std.specs.Prelude.{◌≡◌};
+ghost use Rattle.std.specs.Prelude.{◌≡◌, false};
 ghost use Rattle.scp_device.specs.Device.{Fails};
 ghost use Rattle.scp_live_log.specs.Disk.{HasCause};
 
@@ -8,20 +8,36 @@ use scp_device::below::types::Fault;
 use std::alloc::Global;
 use std::fs::File;
 use std::io::{ErrorKind, Read, Seek, SeekFrom, Write};
+use std::os::unix::fs::MetadataExt;
+use std::rt::Files;
+use std::{fs, io};
 
-/// A log in a file that is open for reading and writing. No clause says anything about its bytes.
+/// A log in a file that is open for reading and appending. No clause says anything about its bytes. What fails is reported to people, too.
+/// At each sync the path is still the one of this file, and the file is as long as what was read and written of it; else it was moved.
 #[derive(Drop)]
-pub struct FileLog {
+pub struct FileLog<'a, R> {
+    system: &'a R,
+    path: String,
     file: File,
+    length: u64,
+    moved: bool,
     failures: u64,
 }
 
-impl FileLog {
-    /// The log in this file. It hasn't failed yet.
-    pub fn new(file: File) -> FileLog
-        ensures { result.failures ≡ 0 }
+impl<'a, R: Files<File = File> + Eprint> FileLog<'a, R> {
+    /// The log in the open file with this path. It hasn't failed yet.
+    pub fn new(system: &'a R, path: String, file: File) -> FileLog<'a, R>
+        ensures failures { result.failures ≡ 0 }
+        ensures moved { result.moved ≡ false }
     {
-        FileLog { file, failures: 0 }
+        FileLog {
+            system,
+            path,
+            file,
+            length: 0,
+            moved: false,
+            failures: 0,
+        }
     }
 
     /// How many times a call has failed.
@@ -39,23 +55,66 @@ impl FileLog {
         Fault::Device
     }
 
-    /// Reads all bytes from the first one on.
-    fn read_all(&mut self, alloc: Global) -> Result<Vec<u8>, Fault>
+    /// What a call came to. Its failure is reported to people in the system's words.
+    fn done<T>(&mut self, came: io::Result<T>) -> Result<T, Fault>
         ensures { HasCause self.old.failures self.new.failures result }
     {
-        let mut bytes = Vec::new(alloc);
-        if self.file.seek(SeekFrom::Start(0)).is_err() {
-            return Err(self.fail());
-        }
-        match self.file.read_to_end(&mut bytes) {
-            Ok(_) => Ok(bytes),
+        match came {
+            Ok(value) => Ok(value),
             Err(error) if error.kind() == ErrorKind::OutOfMemory => Err(Fault::NoMemory),
-            Err(_) => Err(self.fail()),
+            Err(error) => {
+                let _ = eprintln!(self.system; "{}: {error}", self.path);
+                Err(self.fail())
+            }
         }
+    }
+
+    /// Reads all bytes from the first one on.
+    fn read_all(&mut self, alloc: Global) -> io::Result<Vec<u8>>
+        ensures { self.new.failures ≡ self.old.failures }
+    {
+        let mut bytes = Vec::new(alloc);
+        self.file.seek(SeekFrom::Start(0))?;
+        self.file.read_to_end(&mut bytes)?;
+        self.length = bytes.len() as u64;
+        Ok(bytes)
+    }
+
+    fn add(&mut self, bytes: &[u8]) -> io::Result<()>
+        ensures { self.new.failures ≡ self.old.failures }
+    {
+        self.file.write_all(bytes)?;
+        self.length = self.length.saturating_add(bytes.len() as u64);
+        Ok(())
+    }
+
+    fn set_length(&mut self, length: u64) -> io::Result<()>
+        ensures { self.new.failures ≡ self.old.failures }
+    {
+        self.file.set_len(length)?;
+        self.length = length;
+        Ok(())
+    }
+
+    /// Whether the path is that of this file, and the file is as long as what was read and written of it.
+    fn is_there(&self) -> io::Result<bool> {
+        let found = match fs::metadata(self.system, self.path.as_str()) {
+            Ok(found) => found,
+            Err(error) if error.kind() == ErrorKind::NotFound => return Ok(false),
+            Err(error) => return Err(error),
+        };
+        let own = self.file.metadata()?;
+        Ok(found.dev() == own.dev() && found.ino() == own.ino() && own.len() == self.length)
+    }
+
+    /// Syncs the file, and then looks whether it is still there.
+    fn sync_there(&self) -> io::Result<bool> {
+        self.file.sync_data()?;
+        self.is_there()
     }
 }
 
-impl EventLog for FileLog {
+impl<R: Files<File = File> + Eprint> EventLog for FileLog<'_, R> {
     ghost holds = { λ _ _. ⊥ };
 
     ghost may_leave = { λ _ _. ⊥ };
@@ -66,36 +125,51 @@ impl EventLog for FileLog {
 
     ghost faults = { λ f. f.failures };
 
+    ghost moved = { λ f. f.moved };
+
     ghost counts_now = { λ _ _ _ _ left. left };
 
     ghost only_now = { λ _ _ left. left };
 
+    fn was_moved(&self) -> bool {
+        self.moved
+    }
+
+    fn tell_torn(&self, bytes: usize, entries: usize) {
+        if bytes > 0 {
+            let _ = eprintln!(self.system;
+                "{}: its end is torn: {bytes} bytes were cut off behind {entries} events",
+                self.path
+            );
+        }
+    }
+
     fn read(&mut self, alloc: Global) -> Result<Vec<u8>, Fault> {
-        self.read_all(alloc)
+        let came = self.read_all(alloc);
+        self.done(came)
     }
 
     fn append(&mut self, bytes: &[u8]) -> Result<(), Fault> {
-        match self.file.write_all(bytes) {
-            Ok(()) => Ok(()),
-            Err(_) => Err(self.fail()),
-        }
+        let came = self.add(bytes);
+        self.done(came)
     }
 
     fn cut(&mut self, length: usize) -> Result<(), Fault> {
-        if self.file.set_len(length as u64).is_err() {
-            return Err(self.fail());
-        }
-        match self.file.seek(SeekFrom::Start(length as u64)) {
-            Ok(_) => Ok(()),
-            Err(_) => Err(self.fail()),
-        }
+        let came = self.set_length(length as u64);
+        self.done(came)
     }
 
     fn sync(&mut self) -> Result<(), Fault> {
-        match self.file.sync_data() {
-            Ok(()) => Ok(()),
-            Err(_) => Err(self.fail()),
+        let came = self.sync_there();
+        if self.done(came)? {
+            return Ok(());
         }
+        self.moved = true;
+        let _ = eprintln!(self.system;
+            "{}: it was moved, cut or written by somebody else",
+            self.path
+        );
+        Err(self.fail())
     }
 
     // (a file that has no folder of its own can't be replaced in one step)

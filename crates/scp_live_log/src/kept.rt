@@ -1,5 +1,5 @@
 //! A log in use: how entries are kept, and what is read after a crash.
-ghost use Rattle.std.specs.Prelude.{◌≡◌, ◌≢◌, ◌⊎◌, ◌++◌, [], List, ℕ, drop, IfOk, IfErr, OnOk, OnErr, IsErrOf, Err, All, string_bytes};
+ghost use Rattle.std.specs.Prelude.{◌≡◌, ◌≢◌, ◌⊎◌, ◌++◌, [], List, ℕ, drop, length, IfOk, IfErr, OnOk, OnErr, IsErrOf, Err, All, string_bytes};
 ghost use Rattle.scp_device.specs.scp_types.specs.declared.fault.Fault.{Fault};
 ghost use Rattle.scp_device.specs.scp_types.specs.declared.fault.Fault.TheVariants.{NoMemory};
 ghost use Rattle.scp_live_log.specs.declared.kept.LogFault.TheVariants.{Failed};
@@ -7,25 +7,35 @@ ghost use Rattle.scp_device.specs.Device.{Gains, GainsPart, Fails};
 ghost use Rattle.scp_live_log.specs.Disk.{StartsWith, Only, LeavesOnly, IsEither};
 ghost use Rattle.scp_live_log.specs.Log.{Marked, IsLine, IsEntry, AreEntries, HasNoEntry, HasBatch, batch_of, entries_of, log_of, last_digest};
 ghost use Rattle.sha2.specs.Sha256.{sha256};
-ghost use Rattle.scp_live_log.specs.inside.Front.{IsLogFront};
-ghost use Rattle.scp_live_log.specs.Kept.{IsSettled, IsRecovered, IsAllAndMore, IsAnother, IsUntouched, IsDamaged};
+ghost use Rattle.scp_live_log.specs.declared.wanted.Unfit.{Unfit};
+ghost use Rattle.scp_live_log.specs.declared.wanted.Wanted.{Wanted};
+ghost use Rattle.scp_live_log.specs.inside.Front.{IsLogFront, IsFrontFault, IsWantedFault};
+ghost use Rattle.scp_live_log.specs.Kept.{IsSettled, IsRecovered, IsAllAndMore, IsAnother, IsUnbegun, IsTornBy, IsOfFile, IsUntouched, HasEntries, IsDamaged};
+ghost use Rattle.scp_live_log.specs.Wanted.{Fits};
 
 use crate::disk::EventLog;
 use crate::entry::{Entry, batch_bytes};
 use crate::reading::{Front, begins_with, behind, has_batch, is_beginning, read_entries};
 use crate::steps::{add, cut_to};
+use crate::wanted::{Unfit, Wanted, fits, is_new};
 use scp_device::below::types::{Fault, Hash};
 use scp_device::{ReportOut, write_text};
 use sha2::{Digest, Sha256};
 use std::alloc::{AllocError, Global};
 
-/// Why a log can't be read.
+/// Why a log can't be used.
 #[derive(Clone, Copy, Debug, PartialEq, Eq)]
 pub enum LogFault {
     /// The file neither begins with the first line nor is a prefix of it.
     Another,
-    /// After this many whole entries something doesn't fit, and a batch begins after it. So this isn't a torn end.
-    Damaged(usize),
+    /// The file is a part of the first line, or empty, and no new log was wanted.
+    Unbegun,
+    /// The log has this many entries, and another count was wanted.
+    Count(usize, Wanted),
+    /// The entry at this index doesn't fit, for this reason. It isn't a torn end.
+    Damaged(usize, Unfit),
+    /// The disk failed, since somebody else moved the file, or made it longer or shorter.
+    Moved,
     /// A call of the disk failed, or memory ran out.
     Failed(Fault),
 }
@@ -72,6 +82,15 @@ impl Durable {
     }
 }
 
+/// What a file held.
+#[derive(Drop)]
+pub struct Recovered {
+    /// The whole entries.
+    pub entries: Vec<Entry>,
+    /// How many bytes were cut off: those of a torn end, or of a torn first line.
+    pub torn: usize,
+}
+
 /// A log, and the digest of its last entry.
 #[derive(Drop)]
 pub struct Kept<L> {
@@ -95,6 +114,13 @@ impl<L: EventLog> Kept<L> {
         ensures { result.now ≡ self.now.log }
     {
         &self.log
+    }
+
+    /// The digest of the last entry, or of the first line where there is none. It says nothing before `recover` has succeeded.
+    pub fn last(&self) -> Hash
+        ensures { result ≡ self.now.last }
+    {
+        self.last
     }
 
     /// Keeps the entries as one batch, with one append and one sync; with no entries it doesn't call the disk. Returns the text, which
@@ -168,23 +194,36 @@ impl<L: EventLog> Kept<L> {
         Ok(())
     }
 
-    /// Reads the entries of a file that a crash may have left, and cuts off a torn end. A file that is a proper prefix of the first
-    /// line, such as an empty file, is begun again. A file that is no log with this first line is refused and left unchanged.
-    pub fn recover(&mut self, alloc: Global, header: &[u8]) -> Result<Vec<Entry>, LogFault>
+    /// Reads the entries of a file that a crash may have left, and cuts off a torn end. If a new log is wanted, a file that is a proper
+    /// prefix of the first line, such as an empty file, is begun. Any other file that isn't wanted is refused and left unchanged.
+    pub fn recover(
+        &mut self,
+        alloc: Global,
+        header: &[u8],
+        wanted: Wanted,
+    ) -> Result<Recovered, LogFault>
         requires line { ¬ (IsLine header.now) }
         // Everything that was kept is there. If nothing followed it in the file, there is nothing more.
-        ensures all { IfOk result (λ entries. (ms : List Marked) (rest : List ℕ) → AreEntries ms → L.holds self.old.log (log_of header.now ms ++ rest) → IsAllAndMore (entries_of ms) rest entries.items) }
+        ensures all { IfOk result (λ found. (ms : List Marked) (rest : List ℕ) → AreEntries ms → L.holds self.old.log (log_of header.now ms ++ rest) → IsAllAndMore (entries_of ms) rest found.entries.items) }
         // What is cut off contains no further batch.
         ensures torn { OnOk result ((ms : List Marked) (tail : List ℕ) → AreEntries ms → L.holds self.old.log (log_of header.now ms ++ tail) → HasNoEntry (last_digest (sha256 header.now) ms) tail → ¬ (HasBatch tail)) }
-        ensures settled { IfOk result (λ entries. (c : List ℕ) → L.holds self.old.log c → IsRecovered L.holds L.may_leave header.now entries.items self.new) }
+        ensures settled { IfOk result (λ found. (c : List ℕ) → L.holds self.old.log c → IsRecovered L.holds L.may_leave header.now found.entries.items self.new) }
+        // How many bytes were cut off.
+        ensures cut { IfOk result (λ found. (c : List ℕ) → L.holds self.old.log c → IsTornBy header.now found.entries.items found.torn c) }
+        // The log is the one that is wanted, and a first line that was torn was written again only where a new one is.
+        ensures wanted { IfOk result (λ found. Fits wanted (length found.entries.items)) }
+        ensures begun { OnOk result ((c : List ℕ) → L.holds self.old.log c → StartsWith header.now c ⊎ ((wanted ≡ Wanted.New) × StartsWith c header.now)) }
         // A crash at any moment of the call leaves everything that was kept before.
         ensures any_moment { (ms : List Marked) (rest : List ℕ) → AreEntries ms → L.holds self.old.log (log_of header.now ms ++ rest) → Only (log_of header.now ms ++ rest) (L.may_leave self.old.log) → LeavesOnly L.moment L.left_since self.old.log self.new.log (StartsWith (log_of header.now ms)) }
         ensures another { result ≡ Err LogFault.Another → (c : List ℕ) → L.holds self.old.log c → IsAnother header.now c }
-        // The file is read only if it begins with the first line or is a prefix of it.
-        ensures found { OnOk result ((c : List ℕ) → L.holds self.old.log c → StartsWith header.now c ⊎ StartsWith c header.now) }
-        // A file that is neither stays unchanged, whatever the answer, even after a crash at any moment of the call.
+        ensures unbegun { result ≡ Err LogFault.Unbegun → (wanted ≢ Wanted.New) × ((c : List ℕ) → L.holds self.old.log c → IsUnbegun header.now c) }
+        ensures count { (n : ℕ) (w : Wanted) → result ≡ Err (LogFault.Count n w) → (w ≡ wanted) × ¬ (Fits wanted n) × ((c : List ℕ) → L.holds self.old.log c → HasEntries header.now n c) }
+        // A file that is no log with this first line stays unchanged, whatever the answer, even after a crash at any moment of the call.
         ensures untouched { (c : List ℕ) → L.holds self.old.log c → IsAnother header.now c → IsUntouched L.holds L.may_leave L.moment L.left_since c self.old.log self.new.log }
-        ensures damaged { (n : ℕ) → result ≡ Err (LogFault.Damaged n) → (c : List ℕ) → L.holds self.old.log c → IsDamaged header.now n c }
+        // So does any file that is refused for what it holds.
+        ensures left { IfErr result (λ why. IsOfFile why → (c : List ℕ) → L.holds self.old.log c → IsUntouched L.holds L.may_leave L.moment L.left_since c self.old.log self.new.log) }
+        ensures damaged { (n : ℕ) (why : Unfit) → result ≡ Err (LogFault.Damaged n why) → (why ≡ Unfit.Chain) × ((c : List ℕ) → L.holds self.old.log c → IsDamaged header.now n c) }
+        ensures moved { result ≡ Err LogFault.Moved → ⊥ }
         ensures failed { result ≡ Err (LogFault.Failed Fault.Device) → Fails (L.faults self.old.log) (L.faults self.new.log) }
         ensures quiet { OnOk result (L.faults self.new.log ≡ L.faults self.old.log) }
         // A failure of the disk is always reported as `Fault::Device`.
@@ -194,13 +233,25 @@ impl<L: EventLog> Kept<L> {
         let bytes = self.log.read(alloc)?;
         // (the first line, torn)
         if is_beginning(&bytes, header) {
+            if !is_new(wanted) {
+                return Err(LogFault::Unbegun);
+            }
             self.begin(header)?;
-            return Ok(Vec::new(alloc));
+            return Ok(Recovered {
+                entries: Vec::new(alloc),
+                torn: bytes.len(),
+            });
         }
-        let front = front_of(alloc, header, &bytes)?;
+        let front = match wanted_front(alloc, header, &bytes, wanted) {
+            Ok(front) => front,
+            Err(fault) => return Err(fault),
+        };
         cut_to(&mut self.log, front.size)?;
         self.last = front.last;
-        Ok(front.entries)
+        Ok(Recovered {
+            torn: bytes.len().saturating_sub(front.size),
+            entries: front.entries,
+        })
     }
 }
 
@@ -209,8 +260,8 @@ fn front_of(alloc: Global, header: &[u8], bytes: &[u8]) -> Result<Front, LogFaul
     ensures front { IfOk result (λ front. IsLogFront header.now bytes.now front.entries.items front.last.0 front.size) }
     ensures torn { IfOk result (λ front. ¬ (HasBatch (drop front.size bytes.now))) }
     ensures another { result ≡ Err LogFault.Another → ¬ (StartsWith header.now bytes.now) }
-    ensures damaged { (n : ℕ) → result ≡ Err (LogFault.Damaged n) → IsDamaged header.now n bytes.now }
-    ensures only_memory { (fault : Fault) → result ≡ Err (LogFault.Failed fault) → fault ≡ Fault.NoMemory }
+    ensures damaged { (n : ℕ) (why : Unfit) → result ≡ Err (LogFault.Damaged n why) → (why ≡ Unfit.Chain) × IsDamaged header.now n bytes.now }
+    ensures others { IfErr result IsFrontFault }
 {
     if !begins_with(bytes, header) {
         return Err(LogFault::Another);
@@ -220,13 +271,39 @@ fn front_of(alloc: Global, header: &[u8], bytes: &[u8]) -> Result<Front, LogFaul
     let front = read_entries(alloc, first, rest)?;
     let tail = behind(rest, front.size);
     if has_batch(tail) {
-        return Err(LogFault::Damaged(front.entries.len()));
+        return Err(LogFault::Damaged(front.entries.len(), Unfit::Chain));
     }
     Ok(Front {
         entries: front.entries,
         last: front.last,
         size: header.len() + front.size,
     })
+}
+
+/// The same of the log that is wanted. Refused by `Count` if it is another one.
+fn wanted_front(
+    alloc: Global,
+    header: &[u8],
+    bytes: &[u8],
+    wanted: Wanted,
+) -> Result<Front, LogFault>
+    ensures front { IfOk result (λ front. IsLogFront header.now bytes.now front.entries.items front.last.0 front.size) }
+    ensures torn { IfOk result (λ front. ¬ (HasBatch (drop front.size bytes.now))) }
+    ensures wanted { IfOk result (λ front. Fits wanted (length front.entries.items)) }
+    ensures another { result ≡ Err LogFault.Another → ¬ (StartsWith header.now bytes.now) }
+    ensures count { (n : ℕ) (w : Wanted) → result ≡ Err (LogFault.Count n w) → (w ≡ wanted) × ¬ (Fits wanted n) × HasEntries header.now n bytes.now }
+    ensures damaged { (n : ℕ) (why : Unfit) → result ≡ Err (LogFault.Damaged n why) → (why ≡ Unfit.Chain) × IsDamaged header.now n bytes.now }
+    ensures others { IfErr result IsWantedFault }
+{
+    let front = match front_of(alloc, header, bytes) {
+        Ok(front) => front,
+        Err(fault) => return Err(fault),
+    };
+    let count = front.entries.len();
+    if !fits(wanted, count) {
+        return Err(LogFault::Count(count, wanted));
+    }
+    Ok(front)
 }
 
 /// The bytes of a log of these first lines and one batch, and the digest of its last entry.

@@ -1,5 +1,5 @@
 //! A log in memory. Each call takes effect at once, so a crash leaves what is there. It keeps each past content.
-ghost use Rattle.std.specs.Prelude.{◌≡◌, ◌⊎◌, [], ◌∷◌, ◌++◌, length, drop, OnOk, OnErr};
+ghost use Rattle.std.specs.Prelude.{◌≡◌, ◌⊎◌, false, [], ◌∷◌, ◌++◌, length, drop, OnOk, OnErr};
 ghost use Rattle.std.proofs.Common.{inl};
 ghost use Rattle.scp_live_log.specs.Past.{HadBeen, only_bytes};
 
@@ -65,9 +65,17 @@ impl EventLog for MemoryLog {
 
     ghost faults = { λ m. 0 };
 
+    ghost moved = { λ _. false };
+
     ghost counts_now = { λ m t c le now. inl now };
 
     ghost only_now = { λ m c left. only_bytes m.past.items m.bytes.items c left };
+
+    fn was_moved(&self) -> bool {
+        false
+    }
+
+    fn tell_torn(&self, _bytes: usize, _entries: usize) {}
 
     fn read(&mut self, alloc: Global) -> Result<Vec<u8>, Fault> {
         Ok(self.bytes.to_vec(alloc)?)

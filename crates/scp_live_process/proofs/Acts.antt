@@ -24,7 +24,8 @@ use Rattle.scp_live.specs.scp_live_lines.specs.Results.{IfRefusal}
 use Rattle.scp_live_process.specs.Answers.{IsPlayed, IsDone, Replies}
 use Rattle.scp_live_process.specs.Stands.{TellsStand}
 use Rattle.scp_live.specs.Living.{IsLive}
-use Rattle.scp_live_process.specs.inside.Adding.{BatchView, AddsText, TellsMore, Adds, Asks}
+use Rattle.scp_live_process.specs.Adding.{BatchView, TellsMore, Adds, Asks}
+use Rattle.scp_live_process.specs.inside.Texts.{AddsText}
 use Rattle.scp_live.proofs.Going.{found_later, found_behind, none_found}
 use Rattle.scp_live_process.proofs.Going.{Seen, seen_nothing, seen_as}
 use Rattle.scp_live.proofs.Replaying.{told_apart}

@@ -3,6 +3,7 @@ use Rattle.std.proofs.Common.{◌≡◌, ℕ, Bool, true, false, List, [], ◌�
 use Rattle.std.specs.Prelude.{◌≤◌, ◌<◌, ◌↔◌, IsTrue, length}
 use Rattle.scp_stand_node.specs.scp_core.specs.declared.event.Event.{Event as Happening}
 use Rattle.scp_stand_node.specs.scp_core.specs.declared.event.Event.TheVariants as happening
+use Rattle.scp_stand_node.specs.scp_core.specs.declared.event.Reply.TheVariants as reply
 use Rattle.scp_stand_node.specs.scp_core.specs.History.{Exchange}
 use Rattle.scp_batches.specs.scp_live_log.specs.Log.{EntryView}
 use Rattle.scp_batches.specs.declared.line.TheConstants.{LINE_LIMIT}
@@ -15,10 +16,11 @@ use Rattle.scp_stand_node.specs.scp_script.specs.Words.{is_skipped}
 use Rattle.scp_stand_node.specs.scp_script.specs.Reasons.{parts_of}
 use Rattle.scp_live.specs.scp_live_lines.specs.Says.{Says, SaysBy, SaysEvent}
 use Rattle.scp_live.specs.scp_live_lines.specs.Bad.{IsFirstBad}
-use Rattle.scp_live.specs.scp_live_lines.specs.Replies.{ok_line}
+use Rattle.scp_live.specs.scp_live_lines.specs.Replies.{refused_line, ok_line}
 use Rattle.scp_live.specs.Live.{LiveView}
-use Rattle.scp_live_process.specs.Answers.{IsQuiet, Replies, IsDone, IsAnswered, AreAnswered, next_number, bad_line, long_line}
-use Rattle.scp_live_process.specs.inside.Adding.{BatchView, TellsMore, Adds, Asks}
+use Rattle.scp_live.specs.Full.{is_turned_away}
+use Rattle.scp_live_process.specs.Answers.{IsQuiet, Replies, IsPlayed, IsTaken, IsTakenBy, IsDone, IsAnswered, AreAnswered, next_number, bad_line, long_line}
+use Rattle.scp_live_process.specs.Adding.{BatchView, TellsMore, Adds, Asks}
 use Rattle.scp_live_process.specs.inside.Batches.{number_behind}
 
 pub still : (v : LiveView) → IsQuiet v [] v []
@@ -93,6 +95,25 @@ says_by false names line event says = of_host names (parts_of line) event says
 
 pub says_of_host : (names : List (List ℕ)) (line : List ℕ) (event : Happening) → Says names line (Event event) → IsOfHost event
 says_of_host names line event says = says_by (is_skipped line) names line event says.1
+
+-- an event that is turned away, and one that is played
+pub turned : (event : Happening) (line : List ℕ) (v : LiveView) (before after' : BatchView) → is_turned_away event v.node ≡ true → TellsMore (λ told. told ≡ refused_line reply.JournalFull) before after' → Adds (IsTaken event line) v [] v before after'
+turned event line v before after' away t = record {
+  kept = [];
+  told = t.told;
+  is = subst (λ (b : Bool). IsTakenBy b event line v [] v [] t.told) (sym away) (still v, t.is);
+  text = t.text;
+  entries = t.entries ∙ sym (append-nil before.entries);
+}
+
+pub played_so : (event : Happening) (line : List ℕ) (u v : LiveView) (x : List Exchange) (before after' : BatchView) → is_turned_away event u.node ≡ false → Adds (IsPlayed event line) u x v before after' → Adds (IsTaken event line) u x v before after'
+played_so event line u v x before after' stays a = record {
+  kept = a.kept;
+  told = a.told;
+  is = subst (λ (b : Bool). IsTakenBy b event line u x v a.kept a.told) (sym stays) a.is;
+  text = a.text;
+  entries = a.entries;
+}
 
 pub replied : (asked : Asked) (line : List ℕ) (v : LiveView) (before after' : BatchView) → Asks asked → TellsMore (Replies asked v) before after' → Adds (IsDone asked line) v [] v before after'
 replied (Event event) line v before after' asks t = absurd asks

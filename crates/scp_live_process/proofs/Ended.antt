@@ -1,5 +1,5 @@
 -- How a run ends that isn't served to its end.
-use Rattle.std.proofs.Common.{◌≡◌, ℕ, true, List, [], sym, ap, subst, inl, inr, ⊎_elim}
+use Rattle.std.proofs.Common.{◌≡◌, ℕ, Bool, true, List, [], sym, ap, subst, inl, inr, ⊎_elim}
 use Rattle.std.specs.Prelude.{◌≢◌, ◌⊎◌, Result, Ok, Err, IfErr, IsErrOf}
 use Rattle.scp_stand_node.specs.scp_types.specs.declared.fault.Fault.{Fault}
 use Rattle.scp_stand_node.specs.scp_types.specs.declared.fault.Fault.TheVariants.{NoMemory, TooLong, BadConfig, JournalFull, Device}
@@ -10,12 +10,13 @@ use Rattle.scp_stand_node.specs.scp_turn.specs.Episode.{finds_full}
 use Rattle.scp_batches.specs.scp_live_log.specs.declared.kept.Kept.{Kept}
 use Rattle.scp_batches.specs.scp_live_log.specs.declared.kept.LogFault.{LogFault}
 use Rattle.scp_batches.specs.scp_live_log.specs.declared.kept.LogFault.TheVariants.{Failed}
+use Rattle.scp_batches.specs.scp_live_log.specs.declared.wanted.Wanted.{Wanted}
 use Rattle.scp_live.specs.scp_live_config.specs.declared.settings.Settings.{Settings}
 use Rattle.scp_live.specs.Live.{LiveView}
 use Rattle.scp_live.specs.Beginning.{IsNew, config_in, digest_of, header_of}
 use Rattle.scp_live.specs.Failing.{IsReported}
 use Rattle.scp_live.proofs.Going.{Heard}
-use Rattle.scp_live_process.specs.Ending.{Streams, writing, Reports, HasFailed, NoneFailed, IsServeFault, StopsBy, Stops}
+use Rattle.scp_live_process.specs.Ending.{Streams, writing, Reports, HasFailed, NoneFailed, IsServeFault, StopsBy, IsReportedAs, Stops}
 
 -- the four ways in which a node isn't served to the end
 pub serve_fault : {T : Type 0} (old new : Streams) (disk disk' : ℕ) (heard : List Exchange) (f : Fault)
@@ -46,11 +47,11 @@ unmade settings f only =
     only
 
 -- what stopped from a new node holds its ledger and its headline
-pub stops_as : {L : Type 0} (holds may_leave : L → List ℕ → Type 0) (faults : L → ℕ) (r : Result (Unit {0}) LogFault) (settings : Settings) (before after' : Streams) (log : L) (u v : LiveView) (empty kept : Kept L) (header : List ℕ) → header ≡ header_of (digest_of settings) → IsNew settings u → empty.log ≡ log → TheoremGivesLedger → LedgerGivesHeadline
-    → Heard u.node v.node (λ heard. IfErr r (StopsBy holds may_leave faults header before after' empty kept u heard v))
-    → IfErr r (Stops holds may_leave faults settings before after' log)
-stops_as holds may_leave faults (Ok x) settings before after' log u v empty kept header is new on ledger headline g = tt
-stops_as holds may_leave faults (Err f) settings before after' log u v empty kept header is new on ledger headline g =
+pub stops_as : {L : Type 0} {wanted : Wanted} (holds may_leave : L → List ℕ → Type 0) (faults : L → ℕ) (moved : L → Bool) (cause fault : LogFault) (settings : Settings) (before after' : Streams) (log : L) (u v : LiveView) (empty kept : Kept L) (header : List ℕ) → header ≡ header_of (digest_of settings) → IsNew settings u → empty.log ≡ log → TheoremGivesLedger → LedgerGivesHeadline
+    → IsReportedAs (moved kept.log) cause fault
+    → Heard u.node v.node (λ heard. StopsBy holds may_leave faults wanted header before after' empty kept u heard v cause)
+    → Stops holds may_leave faults moved wanted settings before after' log fault
+stops_as {L} {wanted} holds may_leave faults moved cause fault settings before after' log u v empty kept header is new on ledger headline told g =
     let theorem = g.theorem [] new.theorem in
     let holds_ledger = ledger g.heard v.node theorem in
     inr (record {
@@ -61,7 +62,9 @@ stops_as holds may_leave faults (Err f) settings before after' log u v empty kep
       kept = kept;
       heard = g.heard;
       node = v;
-      stops = subst (λ (h : List ℕ). StopsBy holds may_leave faults h before after' empty kept u g.heard v f) is g.is;
+      cause = cause;
+      stops = subst (λ (h : List ℕ). StopsBy holds may_leave faults wanted h before after' empty kept u g.heard v cause) is g.is;
+      told = told;
       theorem = theorem;
       ledger = holds_ledger;
       headline = headline g.heard v.node holds_ledger;

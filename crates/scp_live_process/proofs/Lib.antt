@@ -12,4 +12,6 @@ pub mod Begun
 pub mod Ended
 pub mod Same
 pub mod Traced
+pub mod Torn
+pub mod Running
 pub mod Accounted

@@ -1,6 +1,6 @@
 -- Why a node doesn't start, and what stays of its log.
 use Rattle.std.proofs.Common.{◌≡◌, ℕ, true, List, [], ◌++◌, refl, sym, ◌∙◌, ap, subst, append-nil, inl, inr, ⊎_elim}
-use Rattle.std.specs.Prelude.{◌≤◌, ◌⊎◌, ◌↔◌, Ok, Err, IsErrOf}
+use Rattle.std.specs.Prelude.{◌≤◌, ◌≢◌, ◌⊎◌, ◌↔◌, Ok, Err, IsErrOf}
 use Rattle.scp_stand_node.specs.scp_types.specs.declared.fault.Fault.{Fault}
 use Rattle.scp_stand_node.specs.scp_types.specs.declared.fault.Fault.TheVariants as fault
 use Rattle.scp_stand_node.specs.scp_device.specs.Device.{Fails}
@@ -9,12 +9,17 @@ use Rattle.scp_stand_node.specs.scp_turn.specs.Turn.{links_of}
 use Rattle.scp_stand_node.specs.scp_turn.specs.Episode.{finds_full}
 use Rattle.scp_batches.specs.scp_live_log.specs.declared.kept.Kept.{Kept}
 use Rattle.scp_batches.specs.scp_live_log.specs.declared.kept.LogFault.{LogFault}
-use Rattle.scp_batches.specs.scp_live_log.specs.declared.kept.LogFault.TheVariants.{Another, Damaged, Failed}
+use Rattle.scp_batches.specs.scp_live_log.specs.declared.kept.LogFault.TheVariants.{Another, Unbegun, Count, Damaged, Moved, Failed}
+use Rattle.scp_batches.specs.scp_live_log.specs.declared.wanted.Unfit.{Unfit}
+use Rattle.scp_batches.specs.scp_live_log.specs.declared.wanted.Unfit.TheVariants.{Chain, NoEvent, SendsOtherwise}
+use Rattle.scp_batches.specs.scp_live_log.specs.declared.wanted.Wanted.{Wanted}
+use Rattle.scp_batches.specs.scp_live_log.specs.declared.wanted.Wanted.TheVariants.{New}
+use Rattle.scp_batches.specs.scp_live_log.specs.Wanted.{Fits}
 use Rattle.scp_batches.specs.scp_live_log.specs.Disk.{StartsWith, Only, LeavesOnly}
-use Rattle.scp_batches.specs.scp_live_log.specs.Kept.{IsAnother, IsDamaged}
+use Rattle.scp_batches.specs.scp_live_log.specs.Kept.{IsAnother, IsUnbegun, HasEntries, IsDamaged}
 use Rattle.scp_batches.specs.scp_live_log.specs.Log.{EntryView, Marked, AreEntries, entries_of, log_of}
 use Rattle.scp_live.specs.Live.{LiveView}
-use Rattle.scp_live.specs.Replays.{AreReplayed, IsUnfitAt}
+use Rattle.scp_live.specs.Replays.{AreReplayed, IsUnfitAt, IsPlayFault}
 use Rattle.scp_live_process.specs.Closing.{open_links, MayBeOpen, HasNoCloseLine}
 use Rattle.scp_live_process.specs.Ending.{IsStartFault, StaysKept}
 use Rattle.scp_live_process.specs.Starting.{HasRead}
@@ -45,29 +50,46 @@ stays_read holds may_leave header log mid log' entries read still ms rest are h 
 -- ---- why it doesn't start
 
 -- the log isn't read
-pub recover_fault : {L T : Type 0} (holds may_leave : L → List ℕ → Type 0) (faults : L → ℕ) (header : List ℕ) (log log' : Kept L) (u : LiveView) (f : LogFault)
-    → (IsErrOf {T = T} (Err f) Another → (c : List ℕ) → holds log.log c → IsAnother header c) → ((n : ℕ) → IsErrOf {T = T} (Err f) (Damaged n) → (c : List ℕ) → holds log.log c → IsDamaged header n c)
+pub recover_fault : {L T : Type 0} (wanted : Wanted) (holds may_leave : L → List ℕ → Type 0) (faults : L → ℕ) (header : List ℕ) (log log' : Kept L) (u : LiveView) (f : LogFault)
+    → (IsErrOf {T = T} (Err f) Another → (c : List ℕ) → holds log.log c → IsAnother header c)
+    → (IsErrOf {T = T} (Err f) Unbegun → (wanted ≢ New) × ((c : List ℕ) → holds log.log c → IsUnbegun header c))
+    → ((n : ℕ) (w : Wanted) → IsErrOf {T = T} (Err f) (Count n w) → (w ≡ wanted) × ¬ (Fits wanted n) × ((c : List ℕ) → holds log.log c → HasEntries header n c))
+    → ((n : ℕ) (why : Unfit) → IsErrOf {T = T} (Err f) (Damaged n why) → (why ≡ Chain) × ((c : List ℕ) → holds log.log c → IsDamaged header n c))
+    → (IsErrOf {T = T} (Err f) Moved → ⊥)
     → (IsErrOf {T = T} (Err f) (Failed fault.Device) → Fails (faults log.log) (faults log'.log)) → (IsErrOf {T = T} (Err f) (Failed fault.NoMemory) → faults log'.log ≡ faults log.log)
-    → ((x : Fault) → IsErrOf {T = T} (Err f) (Failed x) → (x ≡ fault.Device) ⊎ (x ≡ fault.NoMemory)) → IsStartFault holds may_leave faults header log log' u [] u f
-recover_fault holds may_leave faults header log log' u Another another damaged device memory only = another refl
-recover_fault holds may_leave faults header log log' u (Damaged n) another damaged device memory only = inl (damaged n refl)
-recover_fault holds may_leave faults header log log' u (Failed x) another damaged device memory only =
+    → ((x : Fault) → IsErrOf {T = T} (Err f) (Failed x) → (x ≡ fault.Device) ⊎ (x ≡ fault.NoMemory)) → IsStartFault holds may_leave faults wanted header log log' u [] u f
+recover_fault {L} {T} wanted holds may_leave faults header log log' u Another another unbegun count damaged moved device memory only = another refl
+recover_fault {L} {T} wanted holds may_leave faults header log log' u Unbegun another unbegun count damaged moved device memory only = unbegun refl
+recover_fault {L} {T} wanted holds may_leave faults header log log' u (Count n w) another unbegun count damaged moved device memory only = count n w refl
+recover_fault {L} {T} wanted holds may_leave faults header log log' u (Damaged n why) another unbegun count damaged moved device memory only =
+    let found = damaged n why refl in
+    subst (λ (w : Unfit). IsStartFault holds may_leave faults wanted header log log' u [] u (Damaged n w)) (sym found.0) found.1
+recover_fault {L} {T} wanted holds may_leave faults header log log' u Moved another unbegun count damaged moved device memory only = absurd (moved refl)
+recover_fault {L} {T} wanted holds may_leave faults header log log' u (Failed x) another unbegun count damaged moved device memory only =
     ⊎_elim
-    (λ (e : x ≡ fault.Device). subst (λ (y : Fault). IsStartFault holds may_leave faults header log log' u [] u (Failed y)) (sym e) (device (ap (λ (y : Fault). Err (Failed y)) e)))
-    (λ (e : x ≡ fault.NoMemory). subst (λ (y : Fault). IsStartFault holds may_leave faults header log log' u [] u (Failed y)) (sym e) (memory (ap (λ (y : Fault). Err (Failed y)) e)))
+    (λ (e : x ≡ fault.Device). subst (λ (y : Fault). IsStartFault holds may_leave faults wanted header log log' u [] u (Failed y)) (sym e) (device (ap (λ (y : Fault). Err (Failed y)) e)))
+    (λ (e : x ≡ fault.NoMemory). subst (λ (y : Fault). IsStartFault holds may_leave faults wanted header log log' u [] u (Failed y)) (sym e) (memory (ap (λ (y : Fault). Err (Failed y)) e)))
     (only x refl)
 
 -- its entries aren't all played
-pub replay_fault : {L : Type 0} (holds may_leave : L → List ℕ → Type 0) (faults : L → ℕ) (header : List ℕ) (log log' : Kept L) (u v : LiveView) (heard : List Exchange) (entries : List EntryView) (f : LogFault) → HasRead holds may_leave header entries log log' → faults log'.log ≡ faults log.log
-    → (IsErrOf {T = Unit {0}} (Err f) Another → ⊥) → ((n : ℕ) → IsErrOf {T = Unit {0}} (Err f) (Damaged n) → IsUnfitAt entries n u heard v) → (IsErrOf {T = Unit {0}} (Err f) (Failed fault.JournalFull) → finds_full heard ≡ true)
-    → ((x : Fault) → IsErrOf {T = Unit {0}} (Err f) (Failed x) → (x ≡ fault.NoMemory) ⊎ (x ≡ fault.JournalFull)) → IsStartFault holds may_leave faults header log log' u heard v f
-replay_fault holds may_leave faults header log log' u v heard entries Another read quiet another unfit full only = absurd (another refl)
-replay_fault holds may_leave faults header log log' u v heard entries (Damaged n) read quiet another unfit full only = inr (record { entries = entries; read = read; unfit = unfit n refl })
-replay_fault holds may_leave faults header log log' u v heard entries (Failed x) read quiet another unfit full only =
+unplayed : {L : Type 0} (wanted : Wanted) (holds may_leave : L → List ℕ → Type 0) (faults : L → ℕ) (header : List ℕ) (log log' : Kept L) (u v : LiveView) (heard : List Exchange) (entries : List EntryView) (n : ℕ) (why : Unfit) → HasRead holds may_leave header entries log log' → IsUnfitAt entries n why u heard v → IsStartFault holds may_leave faults wanted header log log' u heard v (Damaged n why)
+unplayed wanted holds may_leave faults header log log' u v heard entries n Chain read unfit = absurd unfit.played.next
+unplayed wanted holds may_leave faults header log log' u v heard entries n NoEvent read unfit = record { entries = entries; read = read; at = unfit }
+unplayed wanted holds may_leave faults header log log' u v heard entries n SendsOtherwise read unfit = record { entries = entries; read = read; at = unfit }
+
+pub replay_fault : {L : Type 0} (wanted : Wanted) (holds may_leave : L → List ℕ → Type 0) (faults : L → ℕ) (header : List ℕ) (log log' : Kept L) (u v : LiveView) (heard : List Exchange) (entries : List EntryView) (f : LogFault) → HasRead holds may_leave header entries log log' → faults log'.log ≡ faults log.log
+    → ((n : ℕ) (why : Unfit) → IsErrOf {T = Unit {0}} (Err f) (Damaged n why) → IsUnfitAt entries n why u heard v) → (IsErrOf {T = Unit {0}} (Err f) (Failed fault.JournalFull) → finds_full heard ≡ true)
+    → IsPlayFault f → IsStartFault holds may_leave faults wanted header log log' u heard v f
+replay_fault {L} wanted holds may_leave faults header log log' u v heard entries Another read quiet unfit full only = absurd only
+replay_fault {L} wanted holds may_leave faults header log log' u v heard entries Unbegun read quiet unfit full only = absurd only
+replay_fault {L} wanted holds may_leave faults header log log' u v heard entries (Count n w) read quiet unfit full only = absurd only
+replay_fault {L} wanted holds may_leave faults header log log' u v heard entries (Damaged n why) read quiet unfit full only = unplayed wanted holds may_leave faults header log log' u v heard entries n why read (unfit n why refl)
+replay_fault {L} wanted holds may_leave faults header log log' u v heard entries Moved read quiet unfit full only = absurd only
+replay_fault {L} wanted holds may_leave faults header log log' u v heard entries (Failed x) read quiet unfit full only =
     ⊎_elim
-    (λ (e : x ≡ fault.NoMemory). subst (λ (y : Fault). IsStartFault holds may_leave faults header log log' u heard v (Failed y)) (sym e) quiet)
-    (λ (e : x ≡ fault.JournalFull). subst (λ (y : Fault). IsStartFault holds may_leave faults header log log' u heard v (Failed y)) (sym e) (full (ap (λ (y : Fault). Err (Failed y)) e)))
-    (only x refl)
+    (λ (e : x ≡ fault.NoMemory). subst (λ (y : Fault). IsStartFault holds may_leave faults wanted header log log' u heard v (Failed y)) (sym e) quiet)
+    (λ (e : x ≡ fault.JournalFull). subst (λ (y : Fault). IsStartFault holds may_leave faults wanted header log log' u heard v (Failed y)) (sym e) (full (ap (λ (y : Fault). Err (Failed y)) e)))
+    only
 
 -- ---- whether the journal was full
 
@@ -118,12 +140,12 @@ pub fault_else : {T : Type 0} (x : T) (f : LogFault) (heard : List Exchange) →
 fault_else x f heard other told = (λ e. absurd (other e), λ found. absurd (log_unfilled x heard told found))
 
 -- a link isn't closed
-pub close_fault : {L T : Type 0} (holds may_leave : L → List ℕ → Type 0) (faults : L → ℕ) (header : List ℕ) (log mid log' : Kept L) (u v w : LiveView) (x y : List Exchange) (entries : List EntryView) (f : Fault) → HasRead holds may_leave header entries log mid → faults mid.log ≡ faults log.log → AreReplayed entries u x v
+pub close_fault : {L T : Type 0} (wanted : Wanted) (holds may_leave : L → List ℕ → Type 0) (faults : L → ℕ) (header : List ℕ) (log mid log' : Kept L) (u v w : LiveView) (x y : List Exchange) (entries : List EntryView) (f : Fault) → HasRead holds may_leave header entries log mid → faults mid.log ≡ faults log.log → AreReplayed entries u x v
     → (IsErrOf {T = T} (Err f) fault.Device → Fails (faults mid.log) (faults log'.log)) → (IsErrOf {T = T} (Err f) fault.NoMemory → faults log'.log ≡ faults mid.log) → (IsErrOf {T = T} (Err f) fault.JournalFull → finds_full y ≡ true)
     → (IsErrOf {T = T} (Err f) fault.BadConfig → HasNoCloseLine v.names (open_links v.node (links_of v.node)) × (log' ≡ mid)) → (IsErrOf {T = T} (Err f) fault.AlreadyOpen → MayBeOpen w.node)
-    → (f ≡ fault.NoMemory) ⊎ ((f ≡ fault.JournalFull) ⊎ ((f ≡ fault.Device) ⊎ ((f ≡ fault.BadConfig) ⊎ (f ≡ fault.AlreadyOpen)))) → IsStartFault holds may_leave faults header log log' u (x ++ y) w (Failed f)
-close_fault {L} {T} holds may_leave faults header log mid log' u v w x y entries f read quiet played device memory full unsaid still only =
-    let Is : Fault → Type 0 = λ g. IsStartFault holds may_leave faults header log log' u (x ++ y) w (Failed g) in
+    → (f ≡ fault.NoMemory) ⊎ ((f ≡ fault.JournalFull) ⊎ ((f ≡ fault.Device) ⊎ ((f ≡ fault.BadConfig) ⊎ (f ≡ fault.AlreadyOpen)))) → IsStartFault holds may_leave faults wanted header log log' u (x ++ y) w (Failed f)
+close_fault {L} {T} wanted holds may_leave faults header log mid log' u v w x y entries f read quiet played device memory full unsaid still only =
+    let Is : Fault → Type 0 = λ g. IsStartFault holds may_leave faults wanted header log log' u (x ++ y) w (Failed g) in
     let err : (g : Fault) → f ≡ g → IsErrOf {T = T} (Err f) g = λ g e. ap (λ (h : Fault). Err h) e in
     ⊎_elim
     (λ (e : f ≡ fault.NoMemory). subst Is (sym e) (memory (err fault.NoMemory e) ∙ quiet))

@@ -1,5 +1,5 @@
 -- That what is kept of lines that were answered is what was played.
-use Rattle.std.proofs.Common.{ℕ, List, [], ◌∷◌, ◌++◌, sym, subst, ⊎_elim}
+use Rattle.std.proofs.Common.{ℕ, Bool, true, false, List, [], ◌∷◌, ◌++◌, sym, subst, ⊎_elim}
 use Rattle.std.specs.Prelude.{◌≤◌, ◌⊎◌, length}
 use Rattle.scp_stand_node.specs.scp_core.specs.declared.event.Event.{Event as Happening}
 use Rattle.scp_stand_node.specs.scp_core.specs.History.{Exchange}
@@ -11,7 +11,8 @@ use Rattle.scp_live.specs.scp_live_lines.specs.Says.{Says}
 use Rattle.scp_live.specs.Live.{LiveView}
 use Rattle.scp_live.specs.Replays.{AreReplayed}
 use Rattle.scp_live.proofs.Replaying.{replayed_one, replayed_on}
-use Rattle.scp_live_process.specs.Answers.{IsQuiet, IsPlayed, IsDone, IsServed, IsRefused, IsTooLong, IsAnswered, next_number}
+use Rattle.scp_live_process.specs.Answers.{IsQuiet, IsPlayed, IsTakenBy, IsDone, IsServed, IsRefused, IsTooLong, IsAnswered, next_number}
+use Rattle.scp_live.specs.Full.{is_turned_away}
 use Rattle.scp_live_process.specs.Laws.{KeptIsPlayed}
 
 quiet : (old new : LiveView) (heard : List Exchange) (kept : List EntryView) → IsQuiet old heard new kept → AreReplayed kept old heard new
@@ -23,8 +24,12 @@ played event line old new heard kept told says p =
     subst (λ (k : List EntryView). AreReplayed k old heard new) (sym p.entry)
     (replayed_one entry old new heard (record { event = event; says = says; told = told; tells = p.tells; names = p.names; nodes = p.nodes }))
 
+taken : (away : Bool) (event : Happening) (line : List ℕ) (old new : LiveView) (heard : List Exchange) (kept : List EntryView) (told : List ℕ) → Says old.names line (Event event) → IsTakenBy away event line old heard new kept told → AreReplayed kept old heard new
+taken true event line old new heard kept told says p = quiet old new heard kept p.0
+taken false event line old new heard kept told says p = played event line old new heard kept told says p
+
 done : (asked : Asked) (line : List ℕ) (old new : LiveView) (heard : List Exchange) (kept : List EntryView) (told : List ℕ) → Says old.names line asked → IsDone asked line old heard new kept told → AreReplayed kept old heard new
-done (Event event) line old new heard kept told says p = played event line old new heard kept told says p
+done (Event event) line old new heard kept told says p = taken (is_turned_away event old.node) event line old new heard kept told says p
 done (Again link) line old new heard kept told says p = quiet old new heard kept p.0
 done State line old new heard kept told says p = quiet old new heard kept p.0
 done Report line old new heard kept told says p = quiet old new heard kept p.0

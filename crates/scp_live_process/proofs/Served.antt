@@ -14,7 +14,7 @@ use Rattle.scp_batches.specs.Lines.{Gives, IsRead}
 use Rattle.scp_live.specs.Live.{LiveView}
 use Rattle.scp_live_process.specs.Answers.{AreAnswered}
 use Rattle.scp_live_process.specs.Serving.{entries_in, marked_in, IsAnswer, HasServed, HasServedPart}
-use Rattle.scp_live_process.specs.inside.Adding.{BatchView, Adds}
+use Rattle.scp_live_process.specs.Adding.{BatchView, Adds}
 use Rattle.scp_live_process.specs.inside.Batches.{number_behind, IsBatch, StaysDurable}
 use Rattle.scp_live_process.proofs.Answering.{still, answered_on, number_on}
 

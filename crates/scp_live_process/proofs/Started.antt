@@ -11,18 +11,23 @@ use Rattle.scp_stand_node.specs.scp_core.specs.Node.{LinkView, accepts_at, accep
 use Rattle.scp_stand_node.specs.scp_core.specs.Kv.{NodeView}
 use Rattle.scp_stand_node.specs.scp_turn.specs.Turn.{links_of}
 use Rattle.scp_batches.specs.scp_live_log.specs.declared.kept.Kept.{Kept}
-use Rattle.scp_batches.specs.scp_live_log.specs.Kept.{IsSettled, IsRecovered}
+use Rattle.scp_batches.specs.scp_live_log.specs.declared.wanted.Wanted.{Wanted}
+use Rattle.scp_batches.specs.scp_live_log.specs.declared.wanted.Wanted.TheVariants.{New}
+use Rattle.scp_batches.specs.scp_live_log.specs.Disk.{StartsWith}
+use Rattle.scp_batches.specs.scp_live_log.specs.Wanted.{Fits}
+use Rattle.scp_batches.specs.scp_live_log.specs.Kept.{IsSettled, IsRecovered, IsTornBy}
 use Rattle.scp_batches.specs.scp_live_log.specs.Log.{EntryView, Marked, marked_from, batch_of, entries_of}
 use Rattle.scp_live.specs.scp_live_lines.specs.declared.asked.Asked.TheVariants.{Event}
 use Rattle.scp_live.specs.scp_live_lines.specs.Says.{Says}
 use Rattle.scp_stand_node.specs.scp_device.specs.Device.{Gains}
 use Rattle.scp_live.specs.Live.{LiveView}
+use Rattle.scp_live_process.specs.declared.starting.Restarted.{Restarted}
 use Rattle.scp_live_process.specs.Answers.{IsPlayed}
 use Rattle.scp_live.specs.Replays.{AreReplayed}
 use Rattle.scp_live_process.specs.Closing.{is_open_in, is_open_at, open_links, close_line, AreClosed}
 use Rattle.scp_live_process.specs.Serving.{HasServed}
 use Rattle.scp_live_process.specs.Starting.{HasRead, IsRestarted, HasRun, greeting}
-use Rattle.scp_live_process.specs.inside.Adding.{BatchView, Adds}
+use Rattle.scp_live_process.specs.Adding.{BatchView, Adds}
 use Rattle.scp_live_process.specs.inside.Replaying.{AddsClose, AddsCloses}
 use Rattle.scp_live.proofs.Replaying.{replayed_none, replayed_one, replayed_on}
 
@@ -114,26 +119,31 @@ recovered_more holds may_leave header entries closes kept kept' r more = record 
 length_on : (xs ys : List EntryView) (n m : ℕ) → n ≡ length xs → m ≡ length ys → n + m ≡ length (xs ++ ys)
 length_on xs ys n m p q = grind (arith, length-append)
 
-pub restarted : {L : Type 0} (holds may_leave : L → List ℕ → Type 0) (header : List ℕ) (log mid log' : Kept L) (u v w : LiveView) (x y : List Exchange) (entries closes : List EntryView) (n m : ℕ)
+pub restarted : {L : Type 0} {wanted : Wanted} (holds may_leave : L → List ℕ → Type 0) (header : List ℕ) (log mid log' : Kept L) (u v w : LiveView) (x y : List Exchange) (entries closes : List EntryView) (n m torn : ℕ)
     → AreReplayed entries u x v → AreClosed closes v y w → n ≡ length entries → m ≡ length closes → HasRead holds may_leave header entries log mid
+    → Fits wanted (length entries) → ((c : List ℕ) → holds log.log c → StartsWith header c ⊎ ((wanted ≡ New) × StartsWith c header)) → ((c : List ℕ) → holds log.log c → IsTornBy header entries torn c)
     → ((header : List ℕ) (ms : List Marked) → IsSettled holds may_leave header ms mid → IsSettled holds may_leave header (ms ++ batch_of closes) log')
-    → IsRestarted holds may_leave header log log' u (x ++ y) w (n + m)
-restarted holds may_leave header log mid log' u v w x y entries closes n m played shut count counts read more = record {
+    → IsRestarted holds may_leave wanted header log log' u (x ++ y) w (record { count = n + m; torn = torn; behind = n })
+restarted holds may_leave header log mid log' u v w x y entries closes n m torn played shut count counts read fits begun cut more = record {
   entries = entries;
   closes = closes;
   played = record { mid = v; heard_first = x; heard_next = y; heard_is = refl; first = played; next = shut };
   count_is = length_on entries closes n m count counts;
+  wanted_is = fits;
+  begun = begun;
+  behind_is = count;
+  torn = cut;
   all = read.all;
   recovered = λ c h. recovered_more holds may_leave header entries closes mid log' (read.recovered c h) more;
 }
 
 -- ---- the whole
 
-pub has_run : {L : Type 0} (holds may_leave : L → List ℕ → Type 0) (header : List ℕ) (left written greeted longer : Option (List ℕ)) (log ready log' : Kept L) (u v w : LiveView) (x y : List Exchange) (count : ℕ) (text : List ℕ) → IsRestarted holds may_leave header log ready u x v count → text ≡ greeting count v → Gains written text greeted → HasServed holds may_leave left greeted longer ready log' v y w → HasRun holds may_leave header left written longer log log' u (x ++ y) w
-has_run holds may_leave header left written greeted longer log ready log' u v w x y count text restarted is wrote served = record {
+pub has_run : {L : Type 0} {wanted : Wanted} (holds may_leave : L → List ℕ → Type 0) (header : List ℕ) (left written greeted longer : Option (List ℕ)) (log ready log' : Kept L) (u v w : LiveView) (x y : List Exchange) (found : Restarted) (text : List ℕ) → IsRestarted holds may_leave wanted header log ready u x v found → text ≡ greeting found v → Gains written text greeted → HasServed holds may_leave left greeted longer ready log' v y w → HasRun holds may_leave wanted header left written longer log log' u (x ++ y) w
+has_run holds may_leave header left written greeted longer log ready log' u v w x y found text restarted is wrote served = record {
   started = v;
   ready = ready;
-  count = count;
+  found = found;
   greeted = greeted;
   heard_first = x;
   heard_next = y;

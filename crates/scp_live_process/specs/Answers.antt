@@ -1,7 +1,8 @@
 -- The answers to the lines of a host, and what is kept of these lines (this project's profile).
-use Rattle.std.specs.Prelude.{ℕ, ◌≡◌, ◌≤◌, ◌<◌, ◌+◌, ◌-◌, ◌^◌, ◌⊎◌, List, [], ◌∷◌, ◌++◌, length, min, codes}
+use Rattle.std.specs.Prelude.{ℕ, ◌≡◌, ◌≤◌, ◌<◌, ◌+◌, ◌-◌, ◌^◌, ◌⊎◌, Bool, true, false, List, [], ◌∷◌, ◌++◌, length, min, codes}
 use Rattle.std.specs.Fmt.{decimal}
 use Rattle.scp_stand_node.specs.scp_core.specs.declared.event.Event.{Event as Happening}
+use Rattle.scp_stand_node.specs.scp_core.specs.declared.event.Reply.TheVariants as reply
 use Rattle.scp_stand_node.specs.scp_core.specs.History.{Exchange}
 use Rattle.scp_batches.specs.scp_live_log.specs.Log.{EntryView}
 use Rattle.scp_batches.specs.declared.line.TheConstants.{LINE_LIMIT}
@@ -12,10 +13,11 @@ use Rattle.scp_stand_node.specs.scp_device.specs.declared.bad.BadWord.{BadWord}
 use Rattle.scp_live.specs.scp_live_lines.specs.Says.{Says}
 use Rattle.scp_live.specs.scp_live_lines.specs.Bad.{IsFirstBad}
 use Rattle.scp_live.specs.scp_live_lines.specs.Names.{name_at}
-use Rattle.scp_live.specs.scp_live_lines.specs.Replies.{ok_line}
+use Rattle.scp_live.specs.scp_live_lines.specs.Replies.{refused_line, ok_line}
 use Rattle.scp_live.specs.Live.{LiveView, IsTold}
 use Rattle.scp_live.specs.scp_again.specs.Again.{again_of}
 use Rattle.scp_live.specs.Again.{SaysAgain}
+use Rattle.scp_live.specs.Full.{is_turned_away}
 use Rattle.scp_live.specs.Questions.{state_of, report_of, applied_from}
 use Rattle.scp_live_process.specs.Stands.{TellsStand}
 
@@ -43,9 +45,18 @@ Replies Stand v told = TellsStand v told
 Replies (Applied slot) v told = told ≡ applied_from v.node slot.0
 Replies Nothing v told = told ≡ []
 
--- The effect of what a line asks for. An event is played; a question gets its answer and changes nothing.
+-- The effect of an event: it is played, or turned away. An event that is turned away does nothing, and isn't kept.
+abbrev pub IsTakenBy : Bool → Happening → List ℕ → LiveView → List Exchange → LiveView → List EntryView → List ℕ → Type 0
+IsTakenBy true event line old heard new kept told = IsQuiet old heard new kept × (told ≡ refused_line reply.JournalFull)
+IsTakenBy false event line old heard new kept told = IsPlayed event line old heard new kept told
+
+-- What peers do is turned away where the journal is nearly full.
+abbrev pub IsTaken : Happening → List ℕ → LiveView → List Exchange → LiveView → List EntryView → List ℕ → Type 0
+IsTaken event line old heard new kept told = IsTakenBy (is_turned_away event old.node) event line old heard new kept told
+
+-- The effect of what a line asks for. An event is played or turned away; a question gets its answer and changes nothing.
 abbrev pub IsDone : Asked → List ℕ → LiveView → List Exchange → LiveView → List EntryView → List ℕ → Type 0
-IsDone (Event event) line old heard new kept told = IsPlayed event line old heard new kept told
+IsDone (Event event) line old heard new kept told = IsTaken event line old heard new kept told
 IsDone asked line old heard new kept told = IsQuiet old heard new kept × Replies asked old told
 
 -- The line that reports a bad line: its number, the number of its bad word, and what was expected there.

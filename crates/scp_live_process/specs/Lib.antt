@@ -1,6 +1,7 @@
 pub use Rattle.scp_batches.specs.scp_live_log
 pub mod Stands
 pub mod Answers
+pub mod Adding
 pub mod Serving
 pub mod Closing
 pub mod Starting

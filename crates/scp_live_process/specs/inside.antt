@@ -1,3 +1,3 @@
-pub mod Adding
 pub mod Batches
 pub mod Replaying
+pub mod Texts

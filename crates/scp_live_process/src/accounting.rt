@@ -6,7 +6,7 @@ ghost use Rattle.scp_live_process.specs.Accounts.{IsAccountOf, AccountsFor, IsAc
 ghost use Rattle.scp_live.specs.Living.{IsLive};
 
 use scp_account::{KeepingWatch, Mode, account, reports_of, what_is_kept_is_what_happened};
-use scp_batches::below::live_log::{EventLog, Kept, LogFault};
+use scp_batches::below::live_log::{EventLog, Kept, LogFault, Wanted};
 use scp_live::below::live_config::Settings;
 use scp_live::{Live, begun, fail, header, refuse, replay, settings_of};
 use scp_stand_node::below::device::{ReportOut, write_text};
@@ -29,7 +29,8 @@ fn account_of<L: EventLog>(
     ensures account { Goes live.old.node live.new.node (λ _ heard _. IfOk result (λ text. IsAccountOf L.holds header.now kept.old live.old heard live.new (string_bytes text))) }
 {
     what_is_kept_is_what_happened();
-    let entries = kept.recover(alloc, header)?;
+    let found = kept.recover(alloc, header, Wanted::AtLeast(0))?;
+    let entries = found.entries;
     let mut watch = KeepingWatch::new(alloc);
     replay(alloc, live, entries.as_slice(), &mut watch)?;
     if watch.lacks_memory() {

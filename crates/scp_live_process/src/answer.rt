@@ -6,7 +6,7 @@ ghost use Rattle.scp_stand_node.specs.scp_turn.specs.Watch.{notes};
 ghost use Rattle.scp_stand_node.specs.scp_turn.specs.Episode.{finds_full};
 ghost use Rattle.scp_live.specs.scp_live_lines.specs.Says.{Says};
 ghost use Rattle.scp_live_process.specs.Answers.{IsDone, IsAnswered, AreAnswered, next_number};
-ghost use Rattle.scp_live_process.specs.inside.Adding.{Adds};
+ghost use Rattle.scp_live_process.specs.Adding.{Adds};
 ghost use Rattle.scp_live_process.specs.inside.Batches.{number_behind};
 ghost use Rattle.scp_live.specs.Living.{IsLive};
 
@@ -36,13 +36,13 @@ fn done<V: Watch<KvDriver>>(
     ensures only { IfErr result (λ f. (f ≡ Fault.NoMemory) ⊎ ((f ≡ Fault.JournalFull) ⊎ (f ≡ Fault.TooLong))) }
 {
     match asked {
-        Asked::Event(event) => batch.play(live, event, line, watch),
+        Asked::Event(event) => batch.take(live, event, line, watch),
         question => batch.reply(live, &question),
     }
 }
 
-/// Adds the answer to the line with this number.
-fn answer<V: Watch<KvDriver>>(
+/// Adds the answer to the line with this number; the watch is shown each step.
+pub fn answer<V: Watch<KvDriver>>(
     batch: &mut Batch,
     live: &mut Live,
     number: u64,

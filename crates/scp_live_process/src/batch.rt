@@ -1,13 +1,14 @@
 //! The answers to the lines of a batch, and what is kept of the lines.
-ghost use Rattle.std.specs.Prelude.{◌≡◌, ◌⊎◌, ◌↔◌, ◌++◌, ◌∷◌, [], true, IfErr, OnOk, IsErrOf, IsOkUnless, All, string_bytes};
+ghost use Rattle.std.specs.Prelude.{◌≡◌, ◌⊎◌, ◌↔◌, ◌++◌, ◌∷◌, [], true, IfErr, OnOk, IsErrOf, IsOkUnless, All, length, string_bytes};
 ghost use Rattle.hex.specs.Hex.{IsBytes};
 ghost use Rattle.scp_batches.specs.scp_live_log.specs.Log.{IsEntry, IsLine};
 ghost use Rattle.scp_stand_node.specs.scp_turn.specs.Kv.{Goes, Watched};
 ghost use Rattle.scp_stand_node.specs.scp_turn.specs.Watch.{notes};
 ghost use Rattle.scp_stand_node.specs.scp_turn.specs.Episode.{IsOfHost, finds_full};
-ghost use Rattle.scp_live.specs.scp_live_lines.specs.Replies.{ok_line};
-ghost use Rattle.scp_live_process.specs.Answers.{IsPlayed, bad_line, Replies};
-ghost use Rattle.scp_live_process.specs.inside.Adding.{Adds, TellsMore, Asks};
+ghost use Rattle.scp_live.specs.scp_live_lines.specs.Replies.{refused_line, ok_line};
+ghost use Rattle.scp_stand_node.specs.scp_core.specs.declared.event.Reply.TheVariants.{JournalFull};
+ghost use Rattle.scp_live_process.specs.Answers.{IsPlayed, IsTaken, bad_line, Replies};
+ghost use Rattle.scp_live_process.specs.Adding.{Adds, TellsMore, Asks};
 ghost use Rattle.scp_live.specs.Living.{IsLive};
 
 use crate::acting::act;
@@ -15,11 +16,12 @@ use crate::stand::tell_stand;
 use crate::telling::write_bad;
 use scp_batches::below::live_log::Entry;
 use scp_live::Live;
-use scp_live::below::live_lines::{Asked, write_ok};
+use scp_live::below::live_lines::{Asked, write_ok, write_turned_away};
 use scp_stand_node::below::turn::{Event, KvDriver, Watch};
 use scp_stand_node::below::types::{Fault, Hash};
 use std::alloc::Global;
 use std::marker::Model;
+use std::mem;
 
 /// The text that was written so far, and the entries that are to be kept.
 #[derive(Drop)]
@@ -32,7 +34,7 @@ pub struct Batch {
 impl Model for Batch {
     ghost use Rattle.std.specs.Prelude.{All, string_bytes};
     ghost use Rattle.scp_batches.specs.scp_live_log.specs.Log.{IsEntry};
-    ghost use Rattle.scp_live_process.specs.inside.Adding.{BatchView};
+    ghost use Rattle.scp_live_process.specs.Adding.{BatchView};
 
     ghost Value = { BatchView };
 
@@ -82,6 +84,31 @@ impl Batch {
         (self.text, self.entries)
     }
 
+    /// How many entries are to be kept.
+    pub fn count(&self) -> usize
+        ensures { result ≡ length self.now.entries }
+    {
+        self.entries.len()
+    }
+
+    /// Takes out what the batch has so far, and leaves an empty one.
+    pub fn take_out(&mut self) -> Batch
+        ensures taken { result ≡ self.old }
+        ensures empty { self.new ≡ record { text = []; entries = [] } }
+    {
+        let empty = Batch::new(self.alloc);
+        mem::replace(self, empty)
+    }
+
+    /// Adds a text.
+    pub fn add(&mut self, text: &str) -> Result<(), Fault>
+        ensures told { OnOk result (TellsMore (λ told. told ≡ text.now) self.old self.new) }
+        ensures only_memory { IsOkUnless result Fault.NoMemory }
+    {
+        self.text.push_str(text)?;
+        Ok(())
+    }
+
     /// Adds an entry.
     fn keep(&mut self, entry: Entry) -> Result<(), Fault>
         requires { IsEntry entry }
@@ -110,6 +137,38 @@ impl Batch {
         match act(live, event, &mut self.text, watch) {
             Ok(sent) => self.keep(entry_of(line, sent)),
             Err(fault) => Err(fault),
+        }
+    }
+
+    /// Adds the line of an event that is turned away.
+    fn turn_away(&mut self) -> Result<(), Fault>
+        ensures told { OnOk result (TellsMore (λ told. told ≡ refused_line JournalFull) self.old self.new) }
+        ensures only_memory { IsOkUnless result Fault.NoMemory }
+    {
+        write_turned_away(&mut self.text)?;
+        Ok(())
+    }
+
+    /// Plays an event that a line says, or turns it away, if it is a peer's and the journal is nearly full. Adds the lines that report it.
+    /// The watch is shown each step.
+    pub fn take<V: Watch<KvDriver>>(
+        &mut self,
+        live: &mut Live,
+        event: Event,
+        line: Vec<u8>,
+        watch: &mut V,
+    ) -> Result<(), Fault>
+        requires live { IsLive live.old.node }
+        requires host { IsOfHost event }
+        requires line { IsLine line.items }
+        ensures taken { Goes live.old.node live.new.node (λ _ heard _. Watched (notes V.notes_before V.notes_after) 1 watch.old live.old.node heard live.new.node watch.new × (OnOk result (Adds (IsTaken event line.items) live.old heard live.new self.old self.new) × (IsErrOf result Fault.JournalFull ↔ (finds_full heard ≡ true)))) }
+        ensures live { OnOk result (IsLive live.new.node) }
+        ensures only { IfErr result (λ f. (f ≡ Fault.NoMemory) ⊎ (f ≡ Fault.JournalFull)) }
+    {
+        if live.turns_away(&event) {
+            self.turn_away()
+        } else {
+            self.play(live, event, line, watch)
         }
     }
 

@@ -1,9 +1,7 @@
 //! What crates above take of those that this one is built on: a module for each, by its name without `scp_`.
 
 pub mod types {
-    pub use scp_stand_node::below::types::{
-        Capacities, ConnId, Fault, NodeId, SCRIPT_LIMIT, Stage,
-    };
+    pub use scp_stand_node::below::types::{Capacities, ConnId, Fault, NodeId, Stage};
 }
 
 pub mod quorum {
@@ -19,9 +17,7 @@ pub mod ends {
 }
 
 pub mod device {
-    pub use scp_stand_node::below::device::{
-        FailsAt, MemoryIn, MemoryOut, ScriptIn, read_script, write_text,
-    };
+    pub use scp_stand_node::below::device::{FailsAt, MemoryIn, MemoryOut, ScriptIn};
 }
 
 pub mod script {
@@ -36,9 +32,13 @@ pub mod line {
 }
 
 pub mod live_log {
-    pub use scp_batches::below::live_log::{EventLog, FileLog, MemoryLog};
+    pub use scp_batches::below::live_log::{EventLog, MemoryLog, Wanted};
+}
+
+pub mod live_config {
+    pub use scp_live::below::live_config::{ConfigFault, SetWrong, Settings, Wrong, write_fault};
 }
 
 pub mod live {
-    pub use scp_live::{NoLog, check_config};
+    pub use scp_live::{NoLog, check_config, settings_of};
 }

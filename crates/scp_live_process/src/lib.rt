@@ -4,8 +4,11 @@
 //! What it promises:
 //! - each line of the input is answered in order, whatever the sizes of the reads: an event by the lines that report it, a question by
 //!   its answer, any other line by its first bad word;
+//! - what a peer does is turned away, and isn't kept, where the journal is nearly full; all else goes on;
 //! - nothing is written about an event that isn't kept: the events of all lines that one read brought are kept at once, each with the
 //!   digest of what was sent for it; then the answers are written;
+//! - a node starts only with the log that is wanted: a new one, or one with at least so many events. What was torn off its end is reported to
+//!   the host before the node's state;
 //! - a node that starts with a log plays each entry again, and is refused if something else is sent for one of them. Then it closes each
 //!   link that is open, by the event of its `close` line, and no link is open;
 //! - with any status other than 0, what was written is a beginning of the answers, about events that are kept. The last line says why the
@@ -36,10 +39,13 @@ mod telling;
 mod tracing;
 
 pub use accounting::account_node;
+pub use answer::answer as answer_line;
+pub use batch::Batch;
 pub use laws::{
     what_a_log_says_goes_on, what_a_log_says_makes_one_node, what_is_kept_is_what_was_played,
 };
 pub use process::run_node;
 pub use serving::serve;
-pub use starting::restart;
+pub use starting::{Restarted, restart};
+pub use telling::write_torn;
 pub use tracing::run_traced;

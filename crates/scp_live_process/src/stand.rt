@@ -3,12 +3,12 @@ ghost use Rattle.std.specs.Prelude.{◌≡◌, IfOk, OnOk, None, IsOkUnless, map
 ghost use Rattle.scp_stand_node.specs.Stand.{IsStand};
 ghost use Rattle.scp_live_process.specs.Stands.{naming_in, AreNamesIn, TellsStand};
 ghost use Rattle.scp_live.specs.Living.{IsLive};
-ghost use Rattle.scp_live_process.specs.inside.Adding.{AddsText};
+ghost use Rattle.scp_live_process.specs.inside.Texts.{AddsText};
 
 use scp_live::Live;
 use scp_live::below::live_config::Named;
 use scp_stand_node::below::stand_slot::{Names, NodeName};
-use scp_stand_node::below::turn::{Node, each_node_holds_its_ledger};
+use scp_stand_node::below::turn::Node;
 use scp_stand_node::below::types::Fault;
 use scp_stand_node::{Seen, write_stand};
 use std::alloc::{AllocError, Global};

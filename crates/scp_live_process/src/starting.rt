@@ -19,7 +19,7 @@ ghost use Rattle.scp_live_process.specs.inside.Replaying.{AddsClose, AddsCloses}
 ghost use Rattle.scp_live.specs.Living.{IsLive};
 
 use crate::batch::Batch;
-use scp_batches::below::live_log::{Entry, EventLog, Kept, LogFault};
+use scp_batches::below::live_log::{Entry, EventLog, Kept, LogFault, Wanted};
 use scp_live::{Live, event_in, name_of, replay};
 use scp_stand_node::below::turn::{Event, KvDriver, Watch};
 use scp_stand_node::below::types::Fault;
@@ -215,29 +215,45 @@ fn close_links<L: EventLog, V: Watch<KvDriver>>(
     Ok(closes)
 }
 
+/// What a start found in its log.
+#[derive(Clone, Copy, Debug, PartialEq, Eq)]
+pub struct Restarted {
+    /// How many events the log has now.
+    pub count: usize,
+    /// How many bytes of its file were cut off.
+    pub torn: usize,
+    /// How many events are before these.
+    pub behind: usize,
+}
+
 /// Plays what the log says again, and then closes all connections that are open, since none outlives the process. The watch is shown
-/// each step. Returns how many events the log has then. Refused by `Another` for the log of another configuration. Refused by `Damaged`
-/// if the entry at that index doesn't fit the ones before it or says no event, or if something else is sent for it. Refused by `Failed`
-/// if the disk failed or memory ran out, and with `JournalFull` exactly if a step found the journal full. After a refusal, too, all that
-/// was kept is in the log.
+/// each step. Returns how many events the log has then, and what was cut off. Refused by `Another` for the log of another configuration,
+/// by `Unbegun` if its first line is torn and no new log is wanted, and by `Count` if it has another count of events than is wanted.
+/// Refused by `Damaged` if the entry at that index doesn't fit the ones before it or says no event, or if something else is sent for it.
+/// Refused by `Failed` if the disk failed or memory ran out, and with `JournalFull` exactly if a step found the journal full. After a
+/// refusal, too, all that was kept is in the log.
 pub fn restart<L: EventLog, V: Watch<KvDriver>>(
     alloc: Global,
     live: &mut Live,
     kept: &mut Kept<L>,
     header: &[u8],
+    wanted: Wanted,
     watch: &mut V,
-) -> Result<usize, LogFault>
+) -> Result<Restarted, LogFault>
     requires live { IsLive live.old.node }
     requires line { ¬ (IsLine header.now) }
-    ensures restarted { Goes live.old.node live.new.node (λ _ heard _. Watched (notes V.notes_before V.notes_after) 1 watch.old live.old.node heard live.new.node watch.new × (IfOk result (IsRestarted L.holds L.may_leave header.now kept.old kept.new live.old heard live.new) × IfErr result (IsStartFault L.holds L.may_leave L.faults header.now kept.old kept.new live.old heard live.new) × (IsErrOf result (LogFault.Failed Fault.JournalFull) ↔ (finds_full heard ≡ true)))) }
+    ensures restarted { Goes live.old.node live.new.node (λ _ heard _. Watched (notes V.notes_before V.notes_after) 1 watch.old live.old.node heard live.new.node watch.new × (IfOk result (IsRestarted L.holds L.may_leave wanted header.now kept.old kept.new live.old heard live.new) × IfErr result (IsStartFault L.holds L.may_leave L.faults wanted header.now kept.old kept.new live.old heard live.new) × (IsErrOf result (LogFault.Failed Fault.JournalFull) ↔ (finds_full heard ≡ true)))) }
     ensures live { OnOk result (IsLive live.new.node) }
     // Even after a refusal, all that was kept is in the log.
     ensures stays { StaysKept L.holds L.may_leave header.now kept.old kept.new }
 {
-    let entries = match kept.recover(alloc, header) {
-        Ok(entries) => entries,
+    let found = match kept.recover(alloc, header, wanted) {
+        Ok(found) => found,
         Err(fault) => return Err(fault),
     };
+    let entries = found.entries;
+    let behind = entries.len();
+    kept.log().tell_torn(found.torn, behind);
     match replay(alloc, live, entries.as_slice(), watch) {
         Ok(()) => {}
         Err(fault) => return Err(fault),
@@ -246,5 +262,9 @@ pub fn restart<L: EventLog, V: Watch<KvDriver>>(
         Ok(closes) => closes,
         Err(fault) => return Err(LogFault::Failed(fault)),
     };
-    Ok(entries.len() + closes.len())
+    Ok(Restarted {
+        count: behind + closes.len(),
+        torn: found.torn,
+        behind,
+    })
 }

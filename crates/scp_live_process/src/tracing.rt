@@ -8,7 +8,7 @@ ghost use Rattle.scp_live_process.specs.Starting.{IsTracedRun, TracesRun};
 
 use crate::process::run_settings;
 use crate::stand::names_of;
-use scp_batches::below::live_log::{EventLog, LogFault};
+use scp_batches::below::live_log::{EventLog, LogFault, Wanted};
 use scp_live::below::live_config::Settings;
 use scp_live::{fail, refuse, settings_of};
 use scp_stand_node::below::device::{ReportOut, ScriptIn};
@@ -23,17 +23,18 @@ fn run_told<L: EventLog + Drop, R: ScriptIn, W: ReportOut, T: ReportOut + Drop>(
     alloc: Global,
     settings: &Settings,
     log: L,
+    wanted: Wanted,
     reader: &mut R,
     writer: &mut W,
     watch: &mut TracingWatch<T>,
 ) -> Result<(), LogFault>
     requires names { AreNamesIn settings.now.names.items watch.old.names }
     requires none { watch.old.facts.tellings ≡ [] }
-    ensures ran { OnOk result (TracesRun L.holds L.may_leave settings.now (R.left reader.old) (W.written writer.old) (W.written writer.new) log watch.old.written watch.new.written) }
-    ensures stopped { IfErr result (StopsTraced L.holds L.may_leave L.faults settings.now (streams (R.left reader.old) (R.failures reader.old) (W.written writer.old) (W.failures writer.old)) (streams (R.left reader.new) (R.failures reader.new) (W.written writer.new) (W.failures writer.new)) log watch.new.failures) }
+    ensures ran { OnOk result (TracesRun L.holds L.may_leave wanted settings.now (R.left reader.old) (W.written writer.old) (W.written writer.new) log watch.old.written watch.new.written) }
+    ensures stopped { IfErr result (StopsTraced L.holds L.may_leave L.faults L.moved wanted settings.now (streams (R.left reader.old) (R.failures reader.old) (W.written writer.old) (W.failures writer.old)) (streams (R.left reader.new) (R.failures reader.new) (W.written writer.new) (W.failures writer.new)) log watch.new.failures) }
 {
     what_is_traced_is_what_happened();
-    match run_settings(alloc, settings, log, reader, writer, watch) {
+    match run_settings(alloc, settings, log, wanted, reader, writer, watch) {
         Ok(()) => {}
         Err(fault) => return Err(fault),
     }
@@ -48,16 +49,17 @@ fn run_status<L: EventLog + Drop, R: ScriptIn, W: ReportOut, T: ReportOut + Drop
     alloc: Global,
     settings: &Settings,
     log: L,
+    wanted: Wanted,
     reader: &mut R,
     writer: &mut W,
     watch: &mut TracingWatch<T>,
 ) -> u8
     requires names { AreNamesIn settings.now.names.items watch.old.names }
     requires none { watch.old.facts.tellings ≡ [] }
-    ensures ran { result ≡ 0 → TracesRun L.holds L.may_leave settings.now (R.left reader.old) (W.written writer.old) (W.written writer.new) log watch.old.written watch.new.written }
-    ensures stopped { result ≢ 0 → EndsBy (λ stopped fault. StopsTraced L.holds L.may_leave L.faults settings.now (streams (R.left reader.old) (R.failures reader.old) (W.written writer.old) (W.failures writer.old)) stopped log watch.new.failures fault) (streams (R.left reader.new) (R.failures reader.new) (W.written writer.new) (W.failures writer.new)) result }
+    ensures ran { result ≡ 0 → TracesRun L.holds L.may_leave wanted settings.now (R.left reader.old) (W.written writer.old) (W.written writer.new) log watch.old.written watch.new.written }
+    ensures stopped { result ≢ 0 → EndsBy (λ stopped fault. StopsTraced L.holds L.may_leave L.faults L.moved wanted settings.now (streams (R.left reader.old) (R.failures reader.old) (W.written writer.old) (W.failures writer.old)) stopped log watch.new.failures fault) (streams (R.left reader.new) (R.failures reader.new) (W.written writer.new) (W.failures writer.new)) result }
 {
-    match run_told(alloc, settings, log, reader, writer, watch) {
+    match run_told(alloc, settings, log, wanted, reader, writer, watch) {
         Ok(()) => 0,
         Err(fault) => fail(fault, writer),
     }
@@ -84,13 +86,14 @@ pub fn run_traced<L: EventLog + Drop, R: ScriptIn, W: ReportOut, T: ReportOut + 
     alloc: Global,
     config: &[u8],
     log: L,
+    wanted: Wanted,
     reader: &mut R,
     writer: &mut W,
     trace: T,
 ) -> (u8, T)
-    ensures ran { result.0 ≡ 0 → IsTracedRun L.holds L.may_leave config.now (R.left reader.old) (W.written writer.old) (W.written writer.new) log (T.written trace) (T.written result.1) }
+    ensures ran { result.0 ≡ 0 → IsTracedRun L.holds L.may_leave wanted config.now (R.left reader.old) (W.written writer.old) (W.written writer.new) log (T.written trace) (T.written result.1) }
     // With any other status, this is what the node did and kept, why it ended, and its last line.
-    ensures stopped { result.0 ≢ 0 → EndsUntraced L.holds L.may_leave L.faults config.now (streams (R.left reader.old) (R.failures reader.old) (W.written writer.old) (W.failures writer.old)) (streams (R.left reader.new) (R.failures reader.new) (W.written writer.new) (W.failures writer.new)) log (T.failures result.1) result.0 }
+    ensures stopped { result.0 ≢ 0 → EndsUntraced L.holds L.may_leave L.faults L.moved wanted config.now (streams (R.left reader.old) (R.failures reader.old) (W.written writer.old) (W.failures writer.old)) (streams (R.left reader.new) (R.failures reader.new) (W.written writer.new) (W.failures writer.new)) log (T.failures result.1) result.0 }
 {
     let settings = match settings_of(alloc, config) {
         Ok(settings) => settings,
@@ -101,6 +104,6 @@ pub fn run_traced<L: EventLog + Drop, R: ScriptIn, W: ReportOut, T: ReportOut + 
         Err(_) => return (fail(LogFault::Failed(Fault::NoMemory), writer), trace),
     };
     let mut watch = watch_of(alloc, names, trace);
-    let status = run_status(alloc, &settings, log, reader, writer, &mut watch);
+    let status = run_status(alloc, &settings, log, wanted, reader, writer, &mut watch);
     (status, watch.into_trace())
 }

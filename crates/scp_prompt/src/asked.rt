@@ -124,6 +124,17 @@ pub struct ConversionAsked<'a> {
     pub words: Option<Vec<&'a str>>,
 }
 
+/// The log that a node starts with.
+#[derive(Clone, Copy)]
+pub struct LogAsked<'a> {
+    /// The path of its file.
+    pub path: &'a str,
+    /// The file is made. It holds no event yet.
+    pub is_new: bool,
+    /// How many events it has at least.
+    pub least: u64,
+}
+
 /// What is done with a node.
 #[derive(Clone, Copy)]
 pub enum NodeTask<'a> {
@@ -131,8 +142,8 @@ pub enum NodeTask<'a> {
     Check,
     /// It runs until the standard input ends.
     Run {
-        /// The path of its log. Without a log it keeps nothing.
-        log: Option<&'a str>,
+        /// Its log. Without a log it keeps nothing.
+        log: Option<LogAsked<'a>>,
         /// The path of the file into which all that happens is written, if there is one.
         trace: Option<&'a str>,
     },
@@ -151,15 +162,45 @@ pub struct NodeAsked<'a> {
     pub task: NodeTask<'a>,
 }
 
+/// What is asked of history archives.
+#[derive(Drop)]
+pub struct HistoryAsked<'a> {
+    /// The paths of the archives. Without any, one comes from the standard input.
+    pub files: Option<Vec<&'a str>>,
+    /// The first ledger that is shown.
+    pub first: u32,
+    /// The last ledger that is shown.
+    pub last: u32,
+    /// Whether a node whose id is a number below 256 is shown by that number.
+    pub numbers: bool,
+    /// Whether each line is a JSON object.
+    pub json: bool,
+}
+
+/// What is asked of the quorums of a network.
+#[derive(Drop)]
+pub struct QuorumsAsked<'a> {
+    /// A script or a published document, or the configurations of nodes. Without any it is the standard input.
+    pub files: Option<Vec<&'a str>>,
+    /// The names of nodes that lie.
+    pub without: Vec<&'a str>,
+    /// Whether each file is a configuration, whatever its name.
+    pub are_configs: bool,
+}
+
 /// What the words of a command line ask for.
 #[derive(Drop)]
 pub enum Wanted<'a> {
     /// A task on a script.
     Script(Asked<'a>),
+    /// What the quorum sets of a network come to.
+    Quorums(QuorumsAsked<'a>),
     /// A conversion of messages, or of parts of them.
     Conversion(ConversionAsked<'a>),
     /// A node.
     Node(NodeAsked<'a>),
+    /// A report on history archives.
+    History(HistoryAsked<'a>),
     /// A simulation.
     Sim(SimAsked<'a>),
 }
@@ -265,7 +306,6 @@ fn task_by(name: &str, matches: &ArgMatches<'_>) -> Option<Task> {
         "trace" => Some(Task::Trace),
         "draw" => Some(Task::Draw),
         "slot" => Some(Task::Slot),
-        "quorums" => Some(Task::Quorums),
         "hex" => Some(Task::Hex),
         "text" => Some(Task::Text),
         _ => None,
@@ -289,6 +329,78 @@ fn conversion_of<'a>(
     Ok(ConversionAsked { conversion, words })
 }
 
+/// The names that an option has, with commas between them.
+fn names_of<'a>(
+    alloc: Global,
+    matches: &ArgMatches<'a>,
+    id: &str,
+) -> Result<Vec<&'a str>, AllocError> {
+    match matches.get_str(id) {
+        None => Ok(Vec::new(alloc)),
+        Some(names) => names.split(',').collect(alloc),
+    }
+}
+
+/// What is asked of the quorums of a network.
+fn quorums_asked<'a>(
+    alloc: Global,
+    matches: &ArgMatches<'a>,
+) -> Result<QuorumsAsked<'a>, AllocError> {
+    let files = words_of(alloc, matches, "FILE")?;
+    let without = names_of(alloc, matches, "without")?;
+    Ok(QuorumsAsked {
+        files,
+        without,
+        are_configs: false,
+    })
+}
+
+/// What is asked of several configurations, if there are several.
+fn configs_asked<'a>(
+    alloc: Global,
+    matches: &ArgMatches<'a>,
+) -> Result<Option<QuorumsAsked<'a>>, AllocError> {
+    let Some(("check", inner)) = matches.subcommand() else {
+        return Ok(None);
+    };
+    let Some(files) = inner.get_strs("CONFIG") else {
+        return Ok(None);
+    };
+    if files.len() < 2 {
+        return Ok(None);
+    }
+    Ok(Some(QuorumsAsked {
+        files: Some(Vec::from_slice(alloc, files)?),
+        without: Vec::new(alloc),
+        are_configs: true,
+    }))
+}
+
+/// The log that a node starts with, if there is one.
+fn log_of<'a>(matches: &ArgMatches<'a>) -> Option<LogAsked<'a>> {
+    let path = matches.get_str("log")?;
+    let least = match matches.get_one::<u64>("at-least") {
+        Some(least) => least,
+        None => 0,
+    };
+    Some(LogAsked {
+        path,
+        is_new: matches.get_flag("new"),
+        least,
+    })
+}
+
+/// Whether words say of a node's log which one it is, and there is none.
+fn lacks_log(matches: &ArgMatches<'_>) -> bool {
+    match matches.subcommand() {
+        Some(("run", inner)) => {
+            let has_words = inner.get_flag("new") || inner.get_str("at-least").is_some();
+            has_words && inner.get_str("log").is_none()
+        }
+        _ => false,
+    }
+}
+
 /// What a command of a node asks for.
 fn node_by<'a>(matches: &ArgMatches<'a>) -> Option<NodeAsked<'a>> {
     let (name, inner) = matches.subcommand()?;
@@ -296,7 +408,7 @@ fn node_by<'a>(matches: &ArgMatches<'a>) -> Option<NodeAsked<'a>> {
     let task = match name {
         "check" => NodeTask::Check,
         "run" => NodeTask::Run {
-            log: inner.get_str("log"),
+            log: log_of(inner),
             trace: inner.get_str("trace"),
         },
         "account" => NodeTask::Account {
@@ -330,6 +442,13 @@ fn wanted_by<'a>(
     let converted = match name {
         "decode" => conversion_of(alloc, Way::Decode, matches, "HEX")?,
         "encode" => conversion_of(alloc, Way::Encode, matches, "TEXT")?,
+        "quorums" => return Ok(Some(Wanted::Quorums(quorums_asked(alloc, matches)?))),
+        "node" => {
+            if let Some(asked) = configs_asked(alloc, matches)? {
+                return Ok(Some(Wanted::Quorums(asked)));
+            }
+            return Ok(plain_by(name, matches));
+        }
         _ => return Ok(plain_by(name, matches)),
     };
     Ok(Some(Wanted::Conversion(converted)))
@@ -365,6 +484,60 @@ fn bad_option(alloc: Global, bad: &BadOption<'_>) -> Unasked {
     }
 }
 
+/// A number in decimal digits, without a sign.
+fn number_of(word: &str) -> Option<u32> {
+    if !word.bytes().all(|byte| byte.is_ascii_digit()) {
+        return None;
+    }
+    match word.parse::<u32>() {
+        Ok(number) => Some(number),
+        Err(_) => None,
+    }
+}
+
+/// A range of ledgers, as `64..127`. Without the option it is all of them.
+fn ledgers_of(word: Option<&str>) -> Option<(u32, u32)> {
+    let Some(word) = word else {
+        return Some((0, u32::MAX));
+    };
+    let (first, last) = word.split_once("..")?;
+    let (first, last) = (number_of(first)?, number_of(last)?);
+    if first <= last {
+        Some((first, last))
+    } else {
+        None
+    }
+}
+
+/// What is shown where `--ledgers` isn't a range.
+fn bad_ledgers(alloc: Global) -> Unasked {
+    match "error: --ledgers: expected a range of numbers, as 64..127; see bowls history --help\n".to_string(
+        alloc,
+    ) {
+        Ok(text) => Unasked::Wrong(text),
+        Err(_) => Unasked::NoMemory,
+    }
+}
+
+/// What the command on history archives asks for.
+fn history<'a>(alloc: Global, matches: &ArgMatches<'a>) -> Result<Wanted<'a>, Unasked> {
+    let Some((first, last)) = ledgers_of(matches.get_str("ledgers")) else {
+        return Err(bad_ledgers(alloc));
+    };
+    let numbers = matches.get_flag("numbers");
+    let json = matches.get_flag("json");
+    match words_of(alloc, matches, "FILE") {
+        Ok(files) => Ok(Wanted::History(HistoryAsked {
+            files,
+            first,
+            last,
+            numbers,
+            json,
+        })),
+        Err(_) => Err(Unasked::NoMemory),
+    }
+}
+
 /// What the command of a simulation asks for.
 fn simulation<'a>(alloc: Global, matches: &ArgMatches<'a>) -> Result<Wanted<'a>, Unasked> {
     match sim_by(alloc, matches) {
@@ -390,8 +563,10 @@ fn asked_by<'a>(
 ) -> Result<Wanted<'a>, Unasked> {
     match matches.subcommand() {
         Some(("sim", inner)) => simulation(alloc, inner),
+        Some(("history", inner)) => history(alloc, inner),
         Some(("completions", inner)) => Err(told(completions(alloc, shell_of(inner)))),
         Some(("man", _)) => Err(told(manual(alloc, version))),
+        Some(("node", inner)) if lacks_log(inner) => Err(no_log(alloc)),
         Some((name, inner)) => match wanted_by(alloc, name, inner) {
             Ok(Some(wanted)) => Ok(wanted),
             Ok(None) => Err(no_command(alloc)),
@@ -401,12 +576,23 @@ fn asked_by<'a>(
     }
 }
 
-/// What is shown for words that name no command.
-fn no_command(alloc: Global) -> Unasked {
-    match "error: there is no command; see bowls --help\n".to_string(alloc) {
+/// What is shown for words that are wrong in this way.
+fn wrong(alloc: Global, text: &str) -> Unasked {
+    match text.to_string(alloc) {
         Ok(text) => Unasked::Wrong(text),
         Err(_) => Unasked::NoMemory,
     }
+}
+
+/// What is shown for words that name no command.
+fn no_command(alloc: Global) -> Unasked {
+    wrong(alloc, "error: there is no command; see bowls --help\n")
+}
+
+/// What is shown for words that say of a log which one it is, and name none.
+fn no_log(alloc: Global) -> Unasked {
+    let text = "error: --new and --at-least go with --log; see bowls node run --help\n";
+    wrong(alloc, text)
 }
 
 /// Reads the words of a command line, the program's own name first.

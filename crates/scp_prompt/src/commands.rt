@@ -21,10 +21,10 @@ Files:
 
 Statuses:
   0  done
-  1  a script, a message, a configuration or a log was refused
+  1  a script, a message, a configuration or a log was refused, or an archive is cut
   2  the words ask for nothing
   3  a node failed, memory ran out, or a file, the input or the output failed
-  4  a script was played, and there are notices of it on the standard error";
+  4  a script was played, and there are notices of it on the standard error; or archives show more than values";
 
 static AFTER_NODE: &str = "Example:
   bowls node check examples/network/alice.toml
@@ -34,8 +34,9 @@ Lines:
   A line that is neither is answered by 'bad', and nothing else comes of it.
   Where the standard input ends, so does the node, with status 0.
   With --log nothing is written of an event before the file has it, and the node goes on where the file ends.
+  The first start is that with --new. A host that counted events says --at-least: a log that was cut is refused then.
   What goes wrong is told on the standard output by a line that begins with 'fault', with status 1 or 3 (bowls --help);
-  why a file can't be opened is told on the standard error.";
+  where and why is told on the standard error.";
 
 const FILE: Word = Word {
     name: "FILE",
@@ -79,12 +80,27 @@ const CONFIG: Word = Word {
 const LOG: Word = Word {
     name: "log",
     value: &["FILE"],
-    help: "Keeps each event in this file, which is made where it isn't there",
+    help: "Keeps each event in this file, and goes on where it ends",
     ..Word::OPTION
 };
 
-/// The commands on scripts and messages, and those on the program's own words.
-static SCRIPTS: [Entry; 13] = [
+const NEW: Word = Word {
+    name: "new",
+    help: "Makes the file of the log; it is refused if it holds an event",
+    ..Word::FLAG
+};
+
+const AT_LEAST: Word = Word {
+    name: "at-least",
+    value: &["N"],
+    help: "Refuses a log with fewer events",
+    parser: ValueParser::Unsigned(0, u64::MAX),
+    not_with: &["new"],
+    ..Word::OPTION
+};
+
+/// The commands on scripts, archives and messages, and those on the program's own words.
+static SCRIPTS: [Entry; 14] = [
     Entry {
         name: "run",
         about: "Plays a script and prints its reports",
@@ -155,8 +171,44 @@ static SCRIPTS: [Entry; 13] = [
     Entry {
         name: "quorums",
         about: "Tells whether quorums intersect, whose loss halts a node, and how many may be lost",
-        words: &[FILE],
-        end: "Example:\n  bowls quorums examples/four_nodes.scp",
+        words: &[
+            Word {
+                name: "FILE",
+                help: "A script, a published document of quorum sets (JSON), or configurations of nodes (*.toml)",
+                ..Word::REST
+            },
+            Word {
+                name: "without",
+                value: &["NAMES"],
+                help: "What if these nodes lie: their names, with commas between them",
+                ..Word::OPTION
+            },
+        ],
+        end: "Examples:\n  bowls quorums examples/four_nodes.scp\n  bowls quorums --without alice,bob *.toml",
+    },
+    Entry {
+        name: "history",
+        about: "Tells what history archives show of how a network closed its ledgers",
+        words: &[
+            Word {
+                name: "FILE",
+                help: "The scp files of one archive, unpacked and joined; the standard input where there is none, or where it is -",
+                ..Word::REST
+            },
+            Word {
+                name: "ledgers",
+                value: &["A..B"],
+                help: "These ledgers alone",
+                ..Word::OPTION
+            },
+            Word {
+                name: "numbers",
+                help: "A node whose id is a number below 256 by that number",
+                ..Word::FLAG
+            },
+            JSON_LINES,
+        ],
+        end: "Example:\n  bowls history --numbers examples/history/confirmed.xdr",
     },
     Entry {
         name: "hex",
@@ -228,14 +280,16 @@ static NODE: [Entry; 3] = [
         words: &[
             CONFIG,
             LOG,
+            NEW,
+            AT_LEAST,
             Word {
                 name: "trace",
                 value: &["FILE"],
-                help: "Writes all that happens into this file, step by step; it must not be there yet",
+                help: "Writes all that happens at the end of this file, step by step",
                 ..Word::OPTION
             },
         ],
-        end: "Example:\n  bowls node run examples/network/alice.toml --log node.log",
+        end: "Examples:\n  bowls node run examples/network/alice.toml --log node.log --new\n  bowls node run examples/network/alice.toml --log node.log --at-least 5",
     },
     Entry {
         name: "account",
@@ -252,9 +306,14 @@ static NODE: [Entry; 3] = [
     },
     Entry {
         name: "check",
-        about: "Tells what is wrong with a configuration, or its digest",
-        words: &[CONFIG],
-        end: "Example:\n  bowls node check examples/network/alice.toml",
+        about: "Tells what is wrong with a configuration, or its digest; of several whether they agree, and what their quorums are",
+        words: &[Word {
+            name: "CONFIG",
+            help: "The configuration of a node, in TOML",
+            required: true,
+            ..Word::REST
+        }],
+        end: "Examples:\n  bowls node check examples/network/alice.toml\n  bowls node check *.toml",
     },
 ];
 
@@ -300,6 +359,7 @@ fn arg_of<'a>(alloc: Global, word: &Word) -> Result<Arg<'a>, AllocError> {
     let arg = match word.place {
         Place::Anywhere => arg.long(word.name),
         Place::InTurn => arg,
+        Place::Rest if word.required => arg.num_args(1..),
         Place::Rest => arg.num_args(0..),
     };
     arg.conflicts_with_all(word.not_with)

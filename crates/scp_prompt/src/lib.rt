@@ -18,8 +18,8 @@ mod places;
 mod stream;
 
 pub use asked::{
-    Asked, Coding, Conversion, ConversionAsked, Kind, Mode, NodeAsked, NodeTask, Shape, Source,
-    Task, Unasked, Wanted, Way, read_words,
+    Asked, Coding, Conversion, ConversionAsked, HistoryAsked, Kind, LogAsked, Mode, NodeAsked,
+    NodeTask, QuorumsAsked, Shape, Source, Task, Unasked, Wanted, Way, read_words,
 };
 pub use bytes::{LONG_LIMIT, read_within, write_bytes};
 pub use failure::{Failure, Stop, status, write_failure, write_settled};

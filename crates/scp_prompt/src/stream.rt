@@ -1,5 +1,5 @@
 //! Readers and writers that say why they failed.
-ghost use Rattle.std.specs.Prelude.{◌≡◌, ℕ, List, Option, None, OnOk, OnErr};
+ghost use Rattle.std.specs.Prelude.{◌≡◌, ◌↔◌, ◌<◌, true, ℕ, List, Option, None, OnOk, OnErr};
 ghost use Rattle.scp_device.specs.Device.{Fails};
 
 use scp_device::below::types::Fault;
@@ -52,6 +52,13 @@ impl<R> Stream<R> {
             failures: 0,
             why: "nothing failed",
         }
+    }
+
+    /// Whether a call has failed.
+    pub fn has_failed(&self) -> bool
+        ensures { (result ≡ true) ↔ (0 < self.now.failures) }
+    {
+        self.failures > 0
     }
 
     fn fail(&mut self, kind: ErrorKind) -> Fault

@@ -1,10 +1,3 @@
-pub mod Every
-pub mod Adding
-pub mod Visiting
-pub mod Picked
-pub mod Smallest
-pub mod Going
-pub mod Shared
 pub mod QuorumTexts
 pub mod Knowing
 pub mod Sending

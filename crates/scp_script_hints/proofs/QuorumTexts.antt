@@ -11,8 +11,8 @@ use Rattle.scp_script.specs.scp_quorum.specs.Satisfies.{AreDisjoint}
 use Rattle.scp_script.specs.declared.command.Command.{Command}
 use Rattle.scp_script.specs.Nodes.{id_of, numbers, set_at}
 use Rattle.scp_text.specs.Sets.{node_text}
-use Rattle.scp_script_hints.specs.declared.member.Member.{Member}
-use Rattle.scp_script_hints.specs.Quorums.{IsQuorumOf, Intersect}
+use Rattle.scp_quorum_search.specs.declared.member.Member.{Member}
+use Rattle.scp_quorum_search.specs.Quorums.{IsQuorumOf, Intersect}
 use Rattle.scp_script_hints.specs.Told.{nodes_text, TellsApart, TellsDisjoint, TellsHalting, TellAllHalting}
 use Rattle.scp_script_hints.specs.inside.Told.{next_text, none_text, found_text, apart_text}
 

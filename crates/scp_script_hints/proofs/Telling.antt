@@ -11,8 +11,8 @@ use Rattle.scp_script.specs.scp_types.specs.declared.names.NodeId.{NodeId}
 use Rattle.scp_script.specs.scp_quorum.specs.NodeSet.{is_in}
 use Rattle.scp_script.specs.scp_quorum.specs.Satisfies.{AreDisjoint}
 use Rattle.scp_script.specs.declared.command.Command.{Command}
-use Rattle.scp_script_hints.specs.declared.member.Member.{Member}
-use Rattle.scp_script_hints.specs.Quorums.{IsQuorumOf, Intersect}
+use Rattle.scp_quorum_search.specs.declared.member.Member.{Member}
+use Rattle.scp_quorum_search.specs.Quorums.{IsQuorumOf, Intersect}
 use Rattle.scp_script_hints.specs.declared.hint.Hint.{Hint}
 use Rattle.scp_script_hints.specs.declared.before.Before.{Before}
 use Rattle.scp_script_hints.specs.Hints.{sends_on, may_decide, command_hints, hints_behind, line_hints, AreApart}

@@ -12,8 +12,8 @@ use Rattle.scp_script.specs.declared.command.Command.{Command}
 use Rattle.scp_script.specs.declared.command.Command.TheVariants.{Set, Open, Send, Propose, Round, Timer, Tick, Ask}
 use Rattle.scp_script.specs.Script.{node_count, is_link}
 use Rattle.scp_script.specs.Nodes.{numbers, id_of}
-use Rattle.scp_script_hints.specs.declared.member.Member.{Member}
-use Rattle.scp_script_hints.specs.Quorums.{IsQuorumOf, Intersect}
+use Rattle.scp_quorum_search.specs.declared.member.Member.{Member}
+use Rattle.scp_quorum_search.specs.Quorums.{IsQuorumOf, Intersect}
 use Rattle.scp_script_hints.specs.Told.{members_in}
 use Rattle.scp_script_hints.specs.declared.hint.Hint.{Hint}
 use Rattle.scp_script_hints.specs.declared.hint.Hint.TheVariants.{Unknown, Outside, Muted, Disjoint}

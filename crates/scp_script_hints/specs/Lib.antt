@@ -2,7 +2,6 @@ pub use Rattle.scp_script.specs.scp_types
 pub use Rattle.scp_script.specs.scp_wire
 pub use Rattle.scp_script.specs.scp_device
 pub use Rattle.scp_script
-pub mod Quorums
 pub mod Told
 pub mod Hints
 pub mod Texts

@@ -6,8 +6,8 @@ use Rattle.std.specs.BTreeSet.{BTreeSet}
 use Rattle.scp_script.specs.scp_types.specs.declared.names.NodeId.{NodeId}
 use Rattle.scp_script.specs.scp_quorum.specs.NodeSet.{is_in}
 use Rattle.scp_script.specs.scp_quorum.specs.Satisfies.{AreDisjoint}
-use Rattle.scp_script_hints.specs.declared.member.Member.{Member}
-use Rattle.scp_script_hints.specs.Quorums.{IsQuorumOf, Intersect, IsSmallestHalting, IsListed, IsGreatestSurvived}
+use Rattle.scp_quorum_search.specs.declared.member.Member.{Member}
+use Rattle.scp_quorum_search.specs.Quorums.{IsQuorumOf, Intersect, IsSmallestHalting, IsListed, IsGreatestSurvived}
 use Rattle.scp_script.specs.declared.command.Command.{Command}
 use Rattle.scp_script.specs.Script.{node_count}
 use Rattle.scp_script.specs.Nodes.{id_of, numbers, set_at}

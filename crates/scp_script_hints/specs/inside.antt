@@ -1,4 +1,3 @@
 pub mod Apart
 pub mod Behind
-pub mod Groups
 pub mod Told

@@ -6,10 +6,9 @@ ghost use Rattle.scp_script_hints.specs.Told.{members_in};
 ghost use Rattle.scp_script_hints.specs.Hints.{AreApart};
 ghost use Rattle.scp_script_hints.specs.inside.Apart.{apart_hints};
 
-use crate::finding::disjoint_quorums;
 use crate::hint::Hint;
-use crate::member::Member;
 use crate::told::members_of;
+use scp_quorum_search::{Member, disjoint_quorums};
 use scp_script::Command;
 use scp_script::below::types::{Fault, NodeId};
 use std::alloc::{AllocError, Global};

@@ -1,5 +1,5 @@
-//! Hints on the lines of a script that look like mistakes, beside the warnings of `check`. Also quorums over the quorum sets of a few
-//! nodes, such as a script's, and what the loss of nodes does to them.
+//! Hints on the lines of a script that look like mistakes, beside the warnings of `check`. Also the report on the quorums of a script's
+//! nodes, and on what the loss of nodes does to them.
 //!
 //! What it promises:
 //! - Each hint on a script is reported exactly if its definition holds. Those on lines come first, in their order.
@@ -8,29 +8,21 @@
 //!   doesn't warn that such a link is driven.
 //! - It is reported that two quorums have no node in common, with two that have none, exactly if there are any.
 //! - The text of hints is a line for each.
-//! - All quorums of the nodes are found, and each that is found is one.
 //! - For each node the smallest sets of others whose loss halts it are all shown, and each that is shown is one.
 //! - The number of lost nodes that is reported as survived is the greatest that is survived whichever nodes they are.
 //! - The lines on a script's quorums report exactly these facts of the quorum sets that its nodes have.
-//!
-//! What concerns quorums goes over each set of the nodes, and there are 256 of them for eight nodes. So it is for few nodes.
 #![tactic(auto)]
 
 mod apart;
 mod before;
 pub mod below;
-mod finding;
-mod groups;
 mod hint;
 mod lines;
-mod losses;
-mod member;
 mod nodes;
 mod text;
 mod told;
 
 pub use hint::Hint;
 pub use lines::hints;
-pub use member::Member;
 pub use text::text_of_hints;
 pub use told::{apart_text, quorums_text};

@@ -7,9 +7,7 @@ ghost use Rattle.scp_text.specs.Sets.{node_text};
 ghost use Rattle.scp_script_hints.specs.inside.Told.{next_text, none_text, found_text, apart_text};
 ghost use Rattle.scp_script_hints.specs.Told.{members_in, nodes_text, TellsApart, TellsDisjoint, TellsHalting, TellAllHalting, TellsSurvived, TellsQuorums, halting_line};
 
-use crate::finding::disjoint_quorums;
-use crate::losses::{smallest_halting, survived};
-use crate::member::Member;
+use scp_quorum_search::{Member, disjoint_quorums, smallest_halting, survived};
 use scp_script::below::types::{Fault, NodeId};
 use scp_script::{Command, count_of_nodes, id_from, set_of_node};
 use scp_text::Term;

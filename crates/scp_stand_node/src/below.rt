@@ -1,9 +1,7 @@
 //! What crates above take of those that this one is built on: a module for each, by its name without `scp_`.
 
 pub mod types {
-    pub use scp_turn::below::types::{
-        Capacities, ConnId, Fault, Hash, NodeId, SCRIPT_LIMIT, Slot, Stage,
-    };
+    pub use scp_turn::below::types::{Capacities, ConnId, Fault, Hash, NodeId, Slot, Stage};
 }
 
 pub mod quorum {
@@ -23,7 +21,7 @@ pub mod turn {
 
 pub mod device {
     pub use scp_stand_slot::below::device::{
-        FailsAt, MemoryIn, MemoryOut, ReportOut, ScriptIn, read_script, write_text,
+        FailsAt, MemoryIn, MemoryOut, ReportOut, ScriptIn, write_text,
     };
 }
 

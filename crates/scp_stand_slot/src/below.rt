@@ -2,7 +2,7 @@
 
 pub mod device {
     pub use scp_script::below::device::{
-        FailsAt, MemoryIn, MemoryOut, ReportOut, ScriptIn, read_script, write_text,
+        FailsAt, MemoryIn, MemoryOut, ReportOut, ScriptIn, write_text,
     };
 }
 

@@ -5,7 +5,7 @@ use Rattle.scp_batches.specs.scp_live_log.specs.Log.{EntryView}
 use Rattle.scp_live.specs.Live.{LiveView}
 use Rattle.scp_live.specs.Replays.{IsReplayed, AreReplayed}
 use Rattle.scp_live_process.specs.Closing.{close_line}
-use Rattle.scp_live_process.specs.inside.Adding.{BatchView}
+use Rattle.scp_live_process.specs.Adding.{BatchView}
 
 -- The entry of a link's `close` line was added, and what the node did is a replay of it.
 pub record AddsClose (link : ℕ) (old : LiveView) (heard : List Exchange) (new : LiveView) (before after' : BatchView) : Type 0 where

@@ -1,12 +1,15 @@
 //! A node over devices in memory that refuse calls.
-ghost use Rattle.std.specs.Prelude.{◌≡◌, None};
+ghost use Rattle.std.specs.Prelude.{◌≡◌, false, None};
 ghost use Rattle.scp_live_process.specs.scp_live_log.specs.Disk.{HasCause};
 
 use scp_live_process::below::device::{FailsAt, MemoryIn, MemoryOut, ScriptIn};
-use scp_live_process::below::live_log::{EventLog, MemoryLog};
+use scp_live_process::below::live_log::{EventLog, MemoryLog, Wanted};
 use scp_live_process::below::types::Fault;
 use scp_live_process::run_node;
 use std::alloc::Global;
+
+/// The length of a log's first line.
+const FIRST: usize = 76;
 
 /// Room for each text here, so that a writer in memory asks for none.
 const ROOM: usize = 8_192;
@@ -61,9 +64,17 @@ impl EventLog for Refuses<'_> {
 
     ghost faults = { λ l. l.failures };
 
+    ghost moved = { λ _. false };
+
     ghost counts_now = { λ _ _ _ _ left. left };
 
     ghost only_now = { λ _ _ left. left };
+
+    fn was_moved(&self) -> bool {
+        false
+    }
+
+    fn tell_torn(&self, _bytes: usize, _entries: usize) {}
 
     fn read(&mut self, alloc: Global) -> Result<Vec<u8>, Fault> {
         self.count()?;
@@ -132,6 +143,14 @@ fn calls_of(given: &Given<'_>, device: Device) -> u64 {
     }
 }
 
+/// Which log is wanted: a new one, where there is no whole first line.
+fn wanted_of(given: &Given<'_>) -> Wanted {
+    if given.log.len() < FIRST {
+        return Wanted::New;
+    }
+    Wanted::AtLeast(0)
+}
+
 /// What came of a run: its status, what was written, and the log.
 #[derive(Drop)]
 pub struct Ran {
@@ -154,7 +173,15 @@ pub fn played(alloc: Global, given: &Given<'_>) -> Result<Ran, Fault> {
         calls_left: calls_of(given, Device::Log),
         failures: 0,
     };
-    let status = run_node(alloc, given.config, refuses, &mut reader, &mut writer);
+    let wanted = wanted_of(given);
+    let status = run_node(
+        alloc,
+        given.config,
+        refuses,
+        wanted,
+        &mut reader,
+        &mut writer,
+    );
     let (written, _failures) = writer.into_parts();
     Ok(Ran {
         status,

@@ -1,4 +1,4 @@
-use Rattle.std.proofs.Common.{sym, ◌∙◌, ap, string_bytes}
+use Rattle.std.proofs.Common.{Bool, sym, ◌∙◌, ap, string_bytes}
 use Rattle.std.specs.Prelude.{Err, map}
 use Rattle.scp_again.specs.scp_types.specs.declared.fault.Fault.{Fault}
 use Rattle.scp_again.specs.scp_types.specs.declared.fault.Fault.TheVariants.{Failed}
@@ -6,15 +6,16 @@ use Rattle.scp_again.specs.scp_types.specs.declared.names.Hash.{Hash}
 use Rattle.scp_turn.specs.Watch.{notes}
 use Rattle.scp_turn.specs.Kv.{Watched}
 use Rattle.scp_turn.specs.declared.playing.Played.{Played}
+use Rattle.scp_live.specs.Live.{fate_at}
 use Rattle.scp_live.proofs.Reporting.{memory_alone, memory_isnt}
 use Rattle.scp_live.proofs.Texts.{acts_beside, refuses_beside, ok_isnt, same_fault, same_cause}
 use Rattle.scp_live.proofs.acting.act_with.Goals as goal
 
 pub returns-in-Ok-clause-told : goal.returns-in-Ok-clause-told
 returns-in-Ok-clause-told g c =
-    acts_beside c.play_with.result c.tell.result c.in-Ok.played c.args.event (map string_bytes c.args.names.now) c.args.running.now.items c.tell.new.running.items c.args.node.now c.play_with.new.node c.of-marks.result.fates c.of-marks.result.decisions c.of-marks.result.applied (string_bytes c.args.text.now) (string_bytes c.tell.new.text)
+    acts_beside c.play_with.result c.tell.result c.in-Ok.played c.args.event (map string_bytes c.args.names.now) c.args.running.now.items c.tell.new.running.items (fate_at c.play_with.new.node c.of-marks.result.is_command) c.args.node.now c.play_with.new.node c.of-marks.result.fates c.of-marks.result.decisions c.of-marks.result.applied (string_bytes c.args.text.now) (string_bytes c.tell.new.text)
     (λ a heard b. Watched (notes g.W.Watch.notes_before g.W.Watch.notes_after) 1 c.args.watch.now a heard b c.play_with.new.watch)
-    c.in-Ok.is c.of-marks.ensures.fates c.of-marks.ensures.decisions c.of-marks.ensures.applied c.tell.ensures.told c.tell.ensures.digest c.tell.ensures.only_memory c.play_with.ensures.episode
+    c.in-Ok.is (ap (λ (is : Bool). fate_at c.play_with.new.node is) c.of-marks.ensures.command) c.of-marks.ensures.fates c.of-marks.ensures.decisions c.of-marks.ensures.applied c.tell.ensures.told c.tell.ensures.digest c.tell.ensures.only_memory c.play_with.ensures.episode
 
 pub returns-in-Err-clause-told : goal.returns-in-Err-clause-told
 returns-in-Err-clause-told g c =

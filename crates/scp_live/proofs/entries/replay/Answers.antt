@@ -1,13 +1,10 @@
-use Rattle.std.proofs.Common.{◌≡◌, [], arith, refl, subst}
+use Rattle.std.proofs.Common.{[], arith, refl}
 use Rattle.std.specs.Prelude.{Ok}
 use Rattle.scp_turn.specs.Watch.{notes}
 use Rattle.scp_turn.specs.Kv.{Watched}
-use Rattle.scp_live_log.specs.declared.kept.LogFault.{LogFault}
-use Rattle.scp_live_log.specs.declared.kept.LogFault.TheVariants.{Failed}
 use Rattle.scp_live.specs.Replays.{IsReplayed, AreReplayed}
-use Rattle.scp_live.specs.inside.Replaying.{IsReplayFault}
 use Rattle.scp_live.proofs.Going.{heard_nothing, heard_as}
-use Rattle.scp_live.proofs.Replaying.{Comes, one_replayed, refused_at, all_replayed}
+use Rattle.scp_live.proofs.Replaying.{Comes, one_replayed, refused_at, all_replayed, play_fault}
 use Rattle.scp_live.proofs.entries.replay.Goals as goal
 
 pub loop-place-init : goal.loop-place-init
@@ -28,9 +25,7 @@ returns-clause-replayed g c =
     all_replayed (notes g.W.Watch.notes_before g.W.Watch.notes_after) c.args.entries.now c.loop-place.place c.args.live.now c.loop-place.live c.args.watch.now c.loop-place.watch (omega arith) c.loop-place.invariant.live.runs c.loop-place.invariant.replayed
 
 pub returns-in-Err-clause-only : goal.returns-in-Err-clause-only
-returns-in-Err-clause-only g c fault is =
-    let same : c.in-Err.fault ≡ Failed fault = cc in
-    subst (λ (f : LogFault). IsReplayFault c.loop-place.place f) same c.in-Err.ensures.only
+returns-in-Err-clause-only g c = play_fault c.in-Err.fault c.loop-place.place c.in-Err.ensures.only
 
 pub loop-place-preserved : goal.loop-place-preserved
 loop-place-preserved g c = record {

@@ -12,7 +12,7 @@ pub returns-in-Err-clause-replayed : goal.returns-in-Err-clause-replayed
 returns-in-Err-clause-replayed g c =
     let u = c.args.live.now in
     heard_nothing u.node (λ heard. Comes (Err c.in-Err.fault) c.args.place c.args.entry.now u heard u × Watched (notes g.W.Watch.notes_before g.W.Watch.notes_after) 1 c.args.watch.now u.node heard u.node c.args.watch.now)
-    (no_event_said c.in-Err.fault c.args.place c.args.entry.now u (λ same. c.in-Err.ensures.unsaid (ap (λ (f : LogFault). Err f) same)) (event_isnt_full c.in-Err.fault c.args.place c.in-Err.ensures.only), (refl, refl))
+    (no_event_said c.in-Err.fault c.args.place c.args.entry.now u (λ same. c.in-Err.ensures.unsaid (ap (λ (f : LogFault). Err f) same)) c.in-Err.ensures.only (event_isnt_full c.in-Err.fault c.args.place c.in-Err.ensures.only), (refl, refl))
 
 pub returns-in-Err-clause-only : goal.returns-in-Err-clause-only
 returns-in-Err-clause-only g c = event_fault c.in-Err.fault c.args.place c.in-Err.ensures.only

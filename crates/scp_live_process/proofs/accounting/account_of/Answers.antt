@@ -18,8 +18,8 @@ use Rattle.scp_live_process.proofs.accounting.account_of.Goals as goal
 pub reports_of-requires : goal.reports_of-requires
 reports_of-requires g c = record { few = omega (arith, ap (λ (ns : List NodeView). length ns) c.from_ref.ensures.value) }
 
-pub returns-in_err-entries : goal.returns-in_err-entries
-returns-in_err-entries g c = record { account = let p = err_from_is_err_and c.from_residual.result c.from_residual.ensures.1 in rw p.1 (heard_nothing c.args.live.now.node (λ heard. Unit {0}) tt) }
+pub returns-in_err-found : goal.returns-in_err-found
+returns-in_err-found g c = record { account = let p = err_from_is_err_and c.from_residual.result c.from_residual.ensures.1 in rw p.1 (heard_nothing c.args.live.now.node (λ heard. Unit {0}) tt) }
 
 pub returns-in_err-replay : goal.returns-in_err-replay
 returns-in_err-replay g c = record { account = let p = err_from_is_err_and c.from_residual-in_err-replay.result c.from_residual-in_err-replay.ensures.1 in rw p.1 (unsaid c.args.live.now.node c.replay.new.live.node _ c.replay.ensures.replayed) }
@@ -46,9 +46,9 @@ returns g c =
     ∙ ap (λ (ns : List NodeView). reports_of ns) (c.from_ref.ensures.value ∙ ap (λ (n : NodeView). n ∷ []) c.node.ensures) in
     record {
       account =
-          accounted g.L.EventLog.holds c.args.header.now c.args.kept.now u v c.in_ok-entries.entries.items first last kept text
+          accounted g.L.EventLog.holds c.args.header.now c.args.kept.now u v c.in_ok-found.found.entries.items first last kept text
           c.what_is_kept_is_what_happened.ensures.steps (ap (λ (w : WatchView). w.kept) c.new-watch.ensures) (sym c.lacks_memory.ensures ∙ c.if-lacks_memory.false) c.into_kept-happened.ensures
-          c.in_ok-entries.ensures.all
+          c.in_ok-found.ensures.all
           (c.in_ok-text.ensures.text
           ∙ ap (λ (rs : List ReportView). account_text ways.Serial rs c.as_slice-2.result.now) seen
           ∙ ap (λ (k : List Happened). account_text ways.Serial (reports_of (v.node ∷ [])) k) c.as_slice-2.ensures.value)

@@ -1,6 +1,6 @@
 use Rattle.scp_stand_node.specs.scp_turn.specs.Watch.{notes}
 use Rattle.scp_live_process.specs.Answers.{IsAnswered, IsDone}
-use Rattle.scp_live_process.specs.inside.Adding.{Adds}
+use Rattle.scp_live_process.specs.Adding.{Adds}
 use Rattle.scp_live_process.proofs.Answering.{served_as, refused_as, too_long, not_long, long}
 use Rattle.scp_live_process.proofs.Acts.{told_only, told_behind, told_none, told_at, if_ok}
 use Rattle.scp_live_process.proofs.answer.answer.Goals as goal

@@ -3,7 +3,7 @@ use Rattle.std.proofs.lemmas.List.{append-nil, nil_from_length}
 use Rattle.scp_stand_node.specs.scp_turn.specs.Episode.{finds_full}
 use Rattle.scp_stand_node.specs.scp_turn.specs.Watch.{notes}
 use Rattle.scp_live_process.specs.Answers.{IsAnswered, AreAnswered, next_number}
-use Rattle.scp_live_process.specs.inside.Adding.{Adds}
+use Rattle.scp_live_process.specs.Adding.{Adds}
 use Rattle.scp_live_process.proofs.Going.{seen_as, seen_then, seen_running}
 use Rattle.scp_live_process.proofs.Acts.{full_behind}
 use Rattle.scp_live_process.proofs.Answering.{one_added, number_on}

@@ -2,7 +2,7 @@ use Rattle.std.proofs.Common.{◌≡◌, ◌++◌}
 use Rattle.scp_stand_node.specs.scp_turn.specs.Watch.{notes}
 use Rattle.scp_live_process.specs.Answers.{AreAnswered}
 use Rattle.scp_live.specs.Living.{IsLive}
-use Rattle.scp_live_process.specs.inside.Adding.{Adds}
+use Rattle.scp_live_process.specs.Adding.{Adds}
 use Rattle.scp_live_process.specs.inside.Batches.{number_behind}
 use Rattle.scp_live_process.proofs.Going.{Seen}
 use Rattle.scp_live_process.proofs.answer.answer_all.Given as goal

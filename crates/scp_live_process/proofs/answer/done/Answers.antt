@@ -1,6 +1,6 @@
 use Rattle.scp_stand_node.specs.scp_turn.specs.Watch.{notes}
 use Rattle.scp_live_process.specs.Answers.{IsDone}
-use Rattle.scp_live_process.specs.inside.Adding.{Adds}
+use Rattle.scp_live_process.specs.Adding.{Adds}
 use Rattle.scp_live_process.proofs.Going.{seen_nothing}
 use Rattle.scp_live_process.proofs.Acts.{Told, asked_quietly, no_event, on_any, one_of_three}
 use Rattle.scp_live_process.proofs.answer.done.Goals as goal

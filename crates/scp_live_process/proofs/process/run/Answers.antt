@@ -23,7 +23,7 @@ returns-in-Err-greeting_of-clause-ran g c = seen_as (notes g.V.Watch.notes_befor
 pub returns-in-Err-greeting_of-clause-stopped : goal.returns-in-Err-greeting_of-clause-stopped
 returns-in-Err-greeting_of-clause-stopped g c =
     unwatched_as (notes g.V.Watch.notes_before g.V.Watch.notes_after) c.args.watch.now c.restart.new.watch c.args.live.now.node c.restart.new.live.node _ _
-    (λ heard p. (fault_else c.in-Ok.count (Failed NoMemory) heard (λ e. cc) p.2, inr (inl (record { count = c.in-Ok.count; restarted = p.0; unread = refl; why = inl (refl, refl) })))) c.in-Ok.ensures.restarted
+    (λ heard p. (fault_else c.in-Ok.found (Failed NoMemory) heard (λ e. cc) p.2, inr (inl (record { found = c.in-Ok.found; restarted = p.0; unread = refl; why = inl (refl, refl) })))) c.in-Ok.ensures.restarted
 
 pub returns-in-Err-write_text-clause-ran : goal.returns-in-Err-write_text-clause-ran
 returns-in-Err-write_text-clause-ran g c = seen_as (notes g.V.Watch.notes_before g.V.Watch.notes_after) c.args.watch.now c.restart.new.watch c.args.live.now.node c.restart.new.live.node _ _ (λ heard p. tt) c.in-Ok.ensures.restarted
@@ -33,12 +33,12 @@ returns-in-Err-write_text-clause-stopped g c =
     let written = g.W.ReportOut.written in
     let part = subst (λ (t : List ℕ). GainsPart (written c.args.writer.now) t (written c.write_text.new.writer)) (c.as_str.ensures.value ∙ c.in-Ok-greeting_of.ensures) c.in-Err-write_text.ensures.part in
     unwatched_as (notes g.V.Watch.notes_before g.V.Watch.notes_after) c.args.watch.now c.restart.new.watch c.args.live.now.node c.restart.new.live.node _ _
-    (λ heard p. (fault_else c.in-Ok.count (Failed Device) heard (λ e. cc) p.2, inr (inl (record { count = c.in-Ok.count; restarted = p.0; unread = refl; why = inr (refl, c.in-Err-write_text.ensures.raised, part) })))) c.in-Ok.ensures.restarted
+    (λ heard p. (fault_else c.in-Ok.found (Failed Device) heard (λ e. cc) p.2, inr (inl (record { found = c.in-Ok.found; restarted = p.0; unread = refl; why = inr (refl, c.in-Err-write_text.ensures.raised, part) })))) c.in-Ok.ensures.restarted
 
 pub returns-in-Ok-serve-clause-ran : goal.returns-in-Ok-serve-clause-ran
 returns-in-Ok-serve-clause-ran g c =
     seen_then (notes g.V.Watch.notes_before g.V.Watch.notes_after) c.args.watch.now c.restart.new.watch c.serve.new.watch c.args.live.now.node c.restart.new.live.node c.serve.new.live.node _ _ _
-    (λ x y p q. has_run g.L.EventLog.holds g.L.EventLog.may_leave c.args.header.now _ _ _ _ c.args.kept.now c.restart.new.kept c.serve.new.kept c.args.live.now c.restart.new.live c.serve.new.live x y c.in-Ok.count c.as_str.result.now p.0 (c.as_str.ensures.value ∙ c.in-Ok-greeting_of.ensures) c.in-Ok-write_text.ensures.whole q.0)
+    (λ x y p q. has_run g.L.EventLog.holds g.L.EventLog.may_leave c.args.header.now _ _ _ _ c.args.kept.now c.restart.new.kept c.serve.new.kept c.args.live.now c.restart.new.live c.serve.new.live x y c.in-Ok.found c.as_str.result.now p.0 (c.as_str.ensures.value ∙ c.in-Ok-greeting_of.ensures) c.in-Ok-write_text.ensures.whole q.0)
     c.in-Ok.ensures.restarted c.in-Ok-serve.ensures.served
 
 pub returns-in-Ok-serve-clause-stopped : goal.returns-in-Ok-serve-clause-stopped
@@ -54,11 +54,11 @@ returns-clause-stopped g c =
     let served = (streams (g.R.ScriptIn.left c.serve.new.reader) (g.R.ScriptIn.failures c.serve.new.reader) (g.W.ReportOut.written c.serve.new.writer) (g.W.ReportOut.failures c.serve.new.writer)) in
     unwatched_then (notes g.V.Watch.notes_before g.V.Watch.notes_after) c.args.watch.now c.restart.new.watch c.serve.new.watch c.args.live.now.node c.restart.new.live.node c.serve.new.live.node _ _ _
     (λ x y p q. (
-      fault_behind c.in-Err-serve.fault x y (log_unfilled c.in-Ok.count x p.2) q.2,
+      fault_behind c.in-Err-serve.fault x y (log_unfilled c.in-Ok.found x p.2) q.2,
       inr (inr (record {
         started = c.restart.new.live;
         ready = c.restart.new.kept;
-        count = c.in-Ok.count;
+        found = c.in-Ok.found;
         greeted = greeted;
         heard_first = x;
         heard_next = y;

@@ -32,4 +32,4 @@ pub returns-clause-stopped : goal.returns-clause-stopped
 returns-clause-stopped g c other =
     let before = (streams (g.R.ScriptIn.left c.args.reader.now) (g.R.ScriptIn.failures c.args.reader.now) (g.W.ReportOut.written c.args.writer.now) (g.W.ReportOut.failures c.args.writer.now)) in
     let after' = (streams (g.R.ScriptIn.left c.run_status-status.new.reader) (g.R.ScriptIn.failures c.run_status-status.new.reader) (g.W.ReportOut.written c.run_status-status.new.writer) (g.W.ReportOut.failures c.run_status-status.new.writer)) in
-    inr (c.in-Ok.settings, c.in-Ok.ensures.read, subst (λ (n : ℕ). EndsBy (λ stopped fault. StopsTraced g.L.EventLog.holds g.L.EventLog.may_leave g.L.EventLog.faults c.in-Ok.settings before stopped c.args.log n fault) after' c.run_status-status.result) (sym c.into_trace.ensures.failures) (c.run_status-status.ensures.stopped other))
+    inr (c.in-Ok.settings, c.in-Ok.ensures.read, subst (λ (n : ℕ). EndsBy (λ stopped fault. StopsTraced g.L.EventLog.holds g.L.EventLog.may_leave g.L.EventLog.faults g.L.EventLog.moved c.args.wanted c.in-Ok.settings before stopped c.args.log n fault) after' c.run_status-status.result) (sym c.into_trace.ensures.failures) (c.run_status-status.ensures.stopped other))

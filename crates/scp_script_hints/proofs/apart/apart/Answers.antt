@@ -1,5 +1,5 @@
 use Rattle.std.proofs.Common.{List, ◌∙◌, subst, option_to_list}
-use Rattle.scp_script_hints.specs.declared.member.Member.{Member}
+use Rattle.scp_quorum_search.specs.declared.member.Member.{Member}
 use Rattle.scp_script_hints.specs.Hints.{AreApart}
 use Rattle.scp_script_hints.proofs.apart.apart.Goals as goal
 

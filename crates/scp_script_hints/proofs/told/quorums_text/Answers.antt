@@ -1,5 +1,5 @@
 use Rattle.std.proofs.Common.{List, ◌∙◌, subst, string_bytes}
-use Rattle.scp_script_hints.specs.declared.member.Member.{Member}
+use Rattle.scp_quorum_search.specs.declared.member.Member.{Member}
 use Rattle.scp_script_hints.specs.Told.{TellsQuorums}
 use Rattle.scp_script_hints.proofs.told.quorums_text.Goals as goal
 

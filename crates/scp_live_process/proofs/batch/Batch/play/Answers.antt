@@ -1,6 +1,6 @@
 use Rattle.std.proofs.Common.{ap, sym, refl}
 use Rattle.scp_stand_node.specs.scp_turn.specs.Watch.{notes}
-use Rattle.scp_live_process.specs.inside.Adding.{BatchView}
+use Rattle.scp_live_process.specs.Adding.{BatchView}
 use Rattle.scp_live_process.proofs.Going.{seen_as}
 use Rattle.scp_live_process.proofs.Acts.{plays, lives, full_as}
 use Rattle.scp_live_process.proofs.batch.Batch.play.Goals as goal

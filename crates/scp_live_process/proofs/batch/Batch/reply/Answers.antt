@@ -1,5 +1,5 @@
 use Rattle.std.proofs.Common.{ap, sym, refl}
-use Rattle.scp_live_process.specs.inside.Adding.{BatchView}
+use Rattle.scp_live_process.specs.Adding.{BatchView}
 use Rattle.scp_live_process.proofs.Acts.{says_again, tells, reply_as, reply_if, stands}
 use Rattle.scp_live_process.proofs.batch.Batch.reply.Goals as goal
 

@@ -1,0 +1,10 @@
+pub mod Steps
+pub mod Playing
+pub mod Lives
+pub mod Saying
+pub mod Windows
+pub mod Seams
+pub mod Ascending
+pub mod LivesAscend
+pub mod Equal
+pub mod Beginning

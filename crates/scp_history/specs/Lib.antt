@@ -1,0 +1,13 @@
+pub use Rattle.scp_strkey.specs.scp_types
+pub use Rattle.scp_audit.specs.scp_quorum
+pub use Rattle.scp_audit.specs.scp_envelope
+pub use Rattle.scp_audit.specs.scp_vote
+pub use Rattle.scp_audit.specs.scp_ledger
+pub use Rattle.scp_audit.specs.scp_device
+pub use Rattle.scp_audit.specs.scp_archive
+pub use Rattle.scp_audit.specs.scp_judged
+pub use Rattle.scp_audit
+pub mod Words
+pub mod Lines
+pub mod Status
+pub mod Records

@@ -1,0 +1,4 @@
+pub mod Entering
+pub mod Lasting
+pub mod Reporting
+pub mod Oneness

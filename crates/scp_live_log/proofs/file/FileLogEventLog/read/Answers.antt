@@ -1,0 +1,6 @@
+use Rattle.std.proofs.Common.{ℕ, subst}
+use Rattle.scp_live_log.specs.Disk.{HasCause}
+use Rattle.scp_live_log.proofs.file.FileLogEventLog.read.Goals as goal
+
+pub returns-clause-cause : goal.returns-clause-cause
+returns-clause-cause g c = subst (λ (n : ℕ). HasCause n c.done.new.self.failures c.done.result) c.read_all-came.ensures c.done.ensures

@@ -1,0 +1,9 @@
+pub mod Looked
+pub mod Parts
+pub mod Once
+pub mod Entries
+pub mod Lines
+pub mod Reached
+pub mod Said
+pub mod Agreed
+pub mod Gathered

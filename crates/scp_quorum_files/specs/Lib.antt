@@ -1,0 +1,7 @@
+pub mod Documents
+pub mod Networks
+pub mod Faults
+pub mod Configs
+pub mod Report
+pub mod Naming
+pub mod inside

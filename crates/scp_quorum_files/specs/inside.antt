@@ -1,0 +1,4 @@
+pub mod Agreeing
+pub mod Failing
+pub mod Reading
+pub mod Writing

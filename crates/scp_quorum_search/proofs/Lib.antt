@@ -1,0 +1,15 @@
+pub mod Nodes
+pub mod Swapping
+pub mod Branching
+pub mod Settling
+pub mod Sets
+pub mod Looking
+pub mod Honest
+pub mod Rows
+pub mod Counting
+pub mod Ordering
+pub mod Losing
+pub mod Fewest
+pub mod Greatest
+pub mod Alone
+pub mod MostLost

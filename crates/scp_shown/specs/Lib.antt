@@ -1,0 +1,16 @@
+pub use Rattle.scp_history.specs.scp_types
+pub use Rattle.scp_history.specs.scp_device
+pub use Rattle.scp_history.specs.scp_archive
+pub use Rattle.scp_history.specs.scp_audit
+pub use Rattle.scp_history
+pub mod Listed
+pub mod Parts
+pub mod Joined
+pub mod Spoken
+pub mod ValueLines
+pub mod Sides
+pub mod Silent
+pub mod Contradictions
+pub mod LedgerLines
+pub mod Laws
+pub mod inside

@@ -1,0 +1,4 @@
+pub mod Adding
+pub mod Placing
+pub mod Siding
+pub mod Tallying

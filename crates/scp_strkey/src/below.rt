@@ -1,0 +1,5 @@
+//! What crates above take of those that this one is built on: a module for each, by its name without `scp_`.
+
+pub mod types {
+    pub use scp_types::{Fault, Hash, NodeId, SharedValue, Value};
+}
