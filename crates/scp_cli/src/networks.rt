@@ -44,7 +44,10 @@ fn path_of<'a>(paths: &[&'a str], fault: &ConfigsFault) -> &'a str {
         ConfigsFault::Twice(place) => *place,
         ConfigsFault::Names(place) => *place,
     };
-    *paths.get(place).unwrap_or(&"")
+    match paths.get(place) {
+        Some(path) => *path,
+        None => "",
+    }
 }
 
 /// Writes why configurations give no network, and returns the exit status.
@@ -70,11 +73,13 @@ fn reported(rt: &HostRuntime, network: &Network, without: &[&str]) -> Result<u8,
             Ok(told(rt, text.as_str()))
         }
         Err(NamingFault::NoMemory) => Err(AllocError),
-        Err(NamingFault::NoNode(place)) => refused(
-            rt,
-            *without.get(place).unwrap_or(&""),
-            "expected the name of a node",
-        ),
+        Err(NamingFault::NoNode(place)) => {
+            let name = match without.get(place) {
+                Some(name) => *name,
+                None => "",
+            };
+            refused(rt, name, "expected the name of a node")
+        }
     }
 }
 

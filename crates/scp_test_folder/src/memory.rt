@@ -1,5 +1,5 @@
 //! A folder in memory. Each call takes effect at once, so a crash leaves what is there. It keeps each past content.
-ghost use Rattle.std.specs.Prelude.{◌≡◌, length, OnOk, OnErr};
+ghost use Rattle.std.specs.Prelude.{◌≡◌, length, false, OnOk, OnErr};
 ghost use Rattle.std.proofs.Common.{inl};
 ghost use Rattle.scp_live_head.specs.scp_live_log.specs.Disk.{Elapses};
 ghost use Rattle.scp_test_folder.specs.Past.{HasBeenSince, only_content};
@@ -67,9 +67,17 @@ impl Folder for MemoryFolder {
 
     ghost faults = { λ m. 0 };
 
+    ghost moved = { λ _. false };
+
     ghost counts_now = { λ m t left le now. inl now };
 
     ghost only_now = { λ m left since. only_content m.past.items m.content left since };
+
+    fn was_moved(&self) -> bool {
+        false
+    }
+
+    fn tell_torn(&self, _bytes: usize, _entries: usize) {}
 
     fn read(&mut self, alloc: Global) -> Result<Vec<u8>, Fault> {
         Ok(self.content.log.to_vec(alloc)?)

@@ -1,5 +1,5 @@
 //! A folder that refuses calls.
-ghost use Rattle.std.specs.Prelude.{◌≡◌};
+ghost use Rattle.std.specs.Prelude.{◌≡◌, false};
 ghost use Rattle.scp_live_head.specs.scp_live_log.specs.Disk.{HasCause};
 
 use crate::memory::MemoryFolder;
@@ -50,9 +50,17 @@ impl Folder for Refuses<'_> {
 
     ghost faults = { λ f. f.failures };
 
+    ghost moved = { λ _. false };
+
     ghost counts_now = { λ _ _ _ _ left. left };
 
     ghost only_now = { λ _ _ left. left };
+
+    fn was_moved(&self) -> bool {
+        false
+    }
+
+    fn tell_torn(&self, _bytes: usize, _entries: usize) {}
 
     fn read(&mut self, alloc: Global) -> Result<Vec<u8>, Fault> {
         self.count()?;

@@ -5,7 +5,7 @@ ghost use Rattle.hex.specs.Hex.{IsBytes};
 ghost use Rattle.scp_live_head.specs.scp_live_log.specs.Log.{IsLine, IsEntry};
 
 use scp_live_folder::{Epochs, Folder};
-use scp_live_head::below::live_log::{Entry, Kept, LogFault};
+use scp_live_head::below::live_log::{Entry, Kept, LogFault, Wanted};
 use scp_live_head::below::types::{Fault, Hash};
 use scp_live_head::{Head, HeadFault, epoch_in, read_beginning};
 use std::alloc::{AllocError, Global};
@@ -98,8 +98,11 @@ fn recovered<D: Folder + Drop>(
         return Err(Fault::Failed);
     }
     let mut kept = Kept::new(epochs);
-    match kept.recover(alloc, header) {
-        Ok(entries) => Ok(Started { kept, entries }),
+    match kept.recover(alloc, header, Wanted::AtLeast(0)) {
+        Ok(found) => Ok(Started {
+            kept,
+            entries: found.entries,
+        }),
         Err(LogFault::Failed(fault)) => Err(fault),
         Err(_) => Err(Fault::Failed),
     }
