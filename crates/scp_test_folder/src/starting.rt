@@ -93,12 +93,13 @@ fn recovered<D: Folder + Drop>(
     alloc: Global,
     epochs: Epochs<D>,
     header: &[u8],
+    wanted: Wanted,
 ) -> Result<Started<D>, Fault> {
     if !has_end(header) {
         return Err(Fault::Failed);
     }
     let mut kept = Kept::new(epochs);
-    match kept.recover(alloc, header, Wanted::AtLeast(0)) {
+    match kept.recover(alloc, header, wanted) {
         Ok(found) => Ok(Started {
             kept,
             entries: found.entries,
@@ -114,7 +115,13 @@ pub fn start<D: Folder + Drop>(alloc: Global, folder: D) -> Result<Started<D>, F
     let mut folder = folder;
     let bytes = folder.read(alloc)?;
     let (epoch, header) = header_in(alloc, &bytes)?;
+    // (a first line that isn't whole is begun)
+    let wanted = if bytes.len() < header.len() {
+        Wanted::New
+    } else {
+        Wanted::AtLeast(0)
+    };
     let mut epochs = Epochs::new(folder, epoch);
     epochs.start()?;
-    recovered(alloc, epochs, &header)
+    recovered(alloc, epochs, &header, wanted)
 }
